@@ -1,0 +1,27 @@
+-- Refusals 1 and 2 (document 01, "When a sheet is turned away"): the length, then the lowest block whose check is wrong.
+use Prim.Native.Nat.{ℕ, _*_, _/_, _%_}
+use mathlib.Core.Bool.{Bool, not, _&&_}
+use mathlib.Core.List.{List}
+use mathlib.Core.Option.{Option}
+use lib.Dec.{eqb, leb}
+use lib.ListN.{length}
+use Rattle.lists.specs.First.{_otherwise_, first}
+use Rattle.numbers.specs.declared.Refusal.{Refusal}
+use Rattle.layout.specs.Limits.{blockBytes, mostBlocks}
+use Rattle.layout.specs.Checks.{blockRight}
+use Rattle.refusals.specs.Said.{unless}
+
+-- the length is neither zero, nor no multiple of 512, nor over 4,608
+unfoldable pub lengthRight : ℕ → Bool
+lengthRight n = not (eqb n 0) && eqb (n % blockBytes) 0 && leb n (blockBytes * mostBlocks)
+
+-- refusal 2 at block k
+abbrev pub checkRefusal : List ℕ → ℕ → Option Refusal
+checkRefusal s k = unless (blockRight s k) 2 k
+
+-- refusal 2 at the lowest block, of all whole blocks
+abbrev pub checksRefusal : List ℕ → Option Refusal
+checksRefusal s = first (checkRefusal s) 0 (length s / blockBytes)
+
+unfoldable pub early : List ℕ → Option Refusal
+early s = unless (lengthRight (length s)) 1 0 otherwise checksRefusal s

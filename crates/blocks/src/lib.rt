@@ -1,0 +1,112 @@
+// The sheet in 512-byte blocks: checks, a block's content, and refusals 1 and 2.
+ghost use mathlib.Core.Path.{_≡_};
+ghost use Prim.Native.Nat.{_+_, _*_, _≤_, _<_, _^_};
+ghost use lib.ListN.{length};
+ghost use Rattle.numbers.specs.Bytes.{byteAt};
+ghost use Rattle.layout.specs.Checks.{checkOf, blockRight, Inside};
+ghost use Rattle.refusals.specs.Said.{saidOf};
+ghost use Rattle.blocks.specs.Block.{BlockPart};
+ghost use Rattle.blocks.specs.Early.{checksRefusal, early};
+use numbers::Refusal;
+use refusals::Reading;
+
+const BLOCK: usize = 512;
+
+const CONTENT: usize = 510;
+
+const MODULUS: usize = 65521;
+
+const MOST_BLOCKS: usize = 9;
+
+// A content byte times its weight.
+fn term(content: &[u8], i: usize) -> usize
+    requires { ⌜ (i < length (now content)) × (i < 510) ⌝ }
+    ensures { λ r. ⌜ (r ≡ (i + 1) * byteAt (now (content .entry)) i) × (r ≤ 130050) ⌝ }
+{
+    (i + 1) * (content[i] as usize)
+}
+
+// The check of block k with this content.
+fn check_of(k: usize, content: &[u8]) -> usize
+    requires { ⌜ (k < 2 ^ 55) × (length (now content) ≤ 510) ⌝ }
+    ensures { λ r. ⌜ r ≡ checkOf k (now (content .entry)) ⌝ }
+{
+    let mut sum: usize = (k + 1) % MODULUS;
+    let mut i = 0;
+    while i < content.len() {
+        sum = (sum + term(content, i)) % MODULUS;
+        i += 1;
+    }
+    sum
+}
+
+// Whether the check of a block that is wholly inside the bytes is right.
+fn block_right(sheet: &[u8], k: usize) -> bool
+    requires { ⌜ Inside (now sheet) k ⌝ }
+    ensures { λ r. ⌜ r ≡ blockRight (now (sheet .entry)) k ⌝ }
+{
+    let at = BLOCK * k;
+    let end = at + CONTENT;
+    let sum = check_of(k, &sheet[at..end]);
+    let stored = numbers::u16_at(sheet, end) as usize;
+    sum == stored
+}
+
+// A block's 510 content bytes as the very part of the sheet; an empty part where the block is not wholly inside or its check is wrong.
+pub fn block(sheet: &[u8], k: usize) -> &[u8]
+    ensures { λ r. ⌜ BlockPart (sheet .entry) k r ⌝ }
+{
+    if sheet.len() / BLOCK <= k {
+        return &sheet[0..0];
+    }
+    if block_right(sheet, k) {
+        let at = BLOCK * k;
+        let end = at + CONTENT;
+        return &sheet[at..end];
+    }
+    &sheet[0..0]
+}
+
+// Refusal 2: the lowest block whose check is wrong.
+fn checks(sheet: &[u8]) -> Reading
+    ensures { λ r. ⌜ saidOf r ≡ checksRefusal (now (sheet .entry)) ⌝ }
+{
+    let n = sheet.len() / BLOCK;
+    let mut k = 0;
+    while k < n {
+        if !block_right(sheet, k) {
+            return Reading::Refused(Refusal {
+                number: 2,
+                place: k,
+            });
+        }
+        k += 1;
+    }
+    Reading::Accepted
+}
+
+// Refusals 1 and 2.
+pub fn read_blocks(sheet: &[u8]) -> Reading
+    ensures { λ r. ⌜ saidOf r ≡ early (now (sheet .entry)) ⌝ }
+{
+    let n = sheet.len();
+    if n == 0 {
+        return Reading::Refused(Refusal {
+            number: 1,
+            place: 0,
+        });
+    }
+    if n % BLOCK != 0 {
+        return Reading::Refused(Refusal {
+            number: 1,
+            place: 0,
+        });
+    }
+    if BLOCK * MOST_BLOCKS < n {
+        return Reading::Refused(Refusal {
+            number: 1,
+            place: 0,
+        });
+    }
+    checks(sheet)
+}

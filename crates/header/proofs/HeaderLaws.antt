@@ -1,0 +1,179 @@
+-- Laws of refusals 3 and 4: what the tests say, and what the answer says. Assumes nothing.
+use Prim.Native.Nat.{ℕ, zero, suc, _+_, _-_, _*_, _≤_, _<_}
+use mathlib.Core.Path.{_≡_, refl, sym, ap, _∙_}
+use mathlib.Core.Logic.{_⊎_, inl, inr}
+use mathlib.Core.Bool.{Bool, true, false, _&&_, and-false}
+use mathlib.Core.List.{List}
+use mathlib.Core.Option.{none, some, Option·none-ne-some}
+use native.Mathlib.Nat.{zero-add}
+use native.Mathlib.Decide.{ℕ-discrete}
+use native.Mathlib.Numerals.{add-one}
+use native.Mathlib.Omega.{arith}
+use borrow.Author.Tests.{eq-eqb, ne-eqb, eqb-true, le-leb, lt-leb, leb-true}
+use lib.Dec.{eqb}
+use lib.ListN.{length}
+use Rattle.lists.specs.Places.{allBelow}
+use Rattle.lists.proofs.TestLaws.{both, and, all-true, all-of}
+use Rattle.numbers.specs.declared.Refusal.{Refusal}
+use Rattle.layout.specs.Limits.{blockBytes, contentBytes, mostVariables, mostNodes, blocksFor, variablePlace}
+use Rattle.layout.specs.Parts.{edition, nodeCount, variableCount, usedInNodeBlock, Zeros}
+use Rattle.header.specs.Header.{zeros, countsRight, usedIn, tailClear, outsideClear, header, Counted}
+use Rattle.header.proofs.BelowLaws.{all-stop}
+use Rattle.header.proofs.ZeroLaws.{zeros-at, zeros-of}
+
+-- ---- the counts and the length
+module _ (s : List ℕ) where
+  pub counts-none : nodeCount s < 1 → countsRight s ≡ false
+  unfolding countsRight
+  counts-none h = rw (lt-leb 1 (nodeCount s) h)
+
+  pub counts-many : mostNodes < nodeCount s → countsRight s ≡ false
+  unfolding countsRight
+  counts-many h = rw (lt-leb (nodeCount s) mostNodes h, and-false)
+
+  pub counts-variables : mostVariables < variableCount s → countsRight s ≡ false
+  unfolding countsRight
+  counts-variables h = rw (lt-leb (variableCount s) mostVariables h, and-false)
+
+  pub counts-size : 1 ≤ nodeCount s → nodeCount s ≤ mostNodes → variableCount s ≤ mostVariables → countsRight s ≡ eqb (length s) (blockBytes * (blocksFor (nodeCount s) + 1))
+  unfolding countsRight
+  counts-size a b c = rw (le-leb 1 (nodeCount s) a, le-leb (nodeCount s) mostNodes b, le-leb (variableCount s) mostVariables c)
+
+  pub counts-at : countsRight s ≡ true → Counted s
+  unfolding countsRight
+  counts-at e =
+      let w = both _ _ e in
+      let v = both _ _ (w .0) in
+      let u = both _ _ (v .0) in
+      record { some-node = leb-true _ _ (u .0); most = leb-true _ _ (u .1); few = leb-true _ _ (v .1); size = eqb-true _ _ (w .1) }
+
+  pub counts-of : Counted s → countsRight s ≡ true
+  counts-of h = counts-size (h .some-node) (h .most) (h .few) ∙ eq-eqb _ _ (h .size)
+
+-- ---- the bytes outside the records: block 0's tail and those of the node blocks
+abbrev pub Tail : List ℕ → Type 0
+Tail s = Zeros s (variablePlace (variableCount s)) (contentBytes - variablePlace (variableCount s))
+
+abbrev pub Tails : List ℕ → Type 0
+Tails s = (b : ℕ) → b < blocksFor (nodeCount s) → Zeros s (blockBytes * (b + 1) + usedInNodeBlock s b) (contentBytes - usedInNodeBlock s b)
+
+module _ (s : List ℕ) where
+  pub used-first : {k : ℕ} → k ≡ 0 → usedIn s k ≡ variablePlace (variableCount s)
+  used-first e = rw e
+
+  pub used-later : (k : ℕ) → (k ≡ 0 → ⊥) → usedIn s k ≡ usedInNodeBlock s (k - 1)
+  used-later zero h = absurd (h refl)
+  used-later (suc b) h = let e : suc b - 1 ≡ b = omega arith in rw e
+
+  pub outside-gap : zeros s 5 3 ≡ false → outsideClear s ≡ false
+  unfolding outsideClear
+  outside-gap e = rw e
+
+  pub outside-tail : {k : ℕ} → k < blocksFor (nodeCount s) + 1 → tailClear s k ≡ false → outsideClear s ≡ false
+  unfolding outsideClear
+  outside-tail h e = rw (all-stop (tailClear s) (blocksFor (nodeCount s) + 1) h e, and-false)
+
+  pub outside-all : zeros s 5 3 ≡ true → {n : ℕ} → allBelow (tailClear s) n ≡ true → n ≡ blocksFor (nodeCount s) + 1 → outsideClear s ≡ true
+  unfolding outsideClear
+  outside-all e d p = and e (ap (allBelow (tailClear s)) (sym p) ∙ d)
+
+  -- the tail of block 0, and that of node block b
+  pub tail-first : tailClear s 0 ≡ zeros s (variablePlace (variableCount s)) (contentBytes - variablePlace (variableCount s))
+  unfolding tailClear
+  tail-first = rw (zero-add (variablePlace (variableCount s)))
+
+  pub tail-later : (b : ℕ) → tailClear s (suc b) ≡ zeros s (blockBytes * (b + 1) + usedInNodeBlock s b) (contentBytes - usedInNodeBlock s b)
+  unfolding tailClear
+  tail-later b = rw (add-one b)
+
+  pub outside-at : outsideClear s ≡ true → Zeros s 5 3 × Tail s × Tails s
+  unfolding outsideClear
+  outside-at e =
+      let w = both _ _ e in
+      let t = all-true (tailClear s) _ (w .1) in
+      (zeros-at _ _ _ (w .0), zeros-at _ _ _ (sym tail-first ∙ t 0 (omega arith)), λ b h. zeros-at _ _ _ (sym (tail-later b) ∙ t (suc b) (omega arith)))
+
+  pub outside-of : Zeros s 5 3 → Tail s → Tails s → outsideClear s ≡ true
+  unfolding outsideClear
+  outside-of g h t = and (zeros-of _ _ _ g) (all-of (tailClear s) _ each)
+    where
+      each : (k : ℕ) → k < blocksFor (nodeCount s) + 1 → tailClear s k ≡ true
+      each zero l = tail-first ∙ zeros-of _ _ _ h
+      each (suc b) l = tail-later b ∙ zeros-of _ _ _ (t b (omega arith))
+
+-- ---- the answer
+abbrev pub at-0 : ℕ → Refusal
+at-0 n = record { number = n; place = 0 }
+
+pub record HeaderRight (s : List ℕ) : Type 0 where
+  pub edition : edition s ≡ 1
+  pub some-node : 1 ≤ nodeCount s
+  pub most : nodeCount s ≤ mostNodes
+  pub few : variableCount s ≤ mostVariables
+  pub size : length s ≡ blockBytes * (blocksFor (nodeCount s) + 1)
+  pub gap : Zeros s 5 3
+  pub tail : Tail s
+  pub tails : Tails s
+
+module _ (s : List ℕ) where
+  pub edition-refuses : (edition s ≡ 1 → ⊥) → header s ≡ some (at-0 3)
+  unfolding header
+  edition-refuses h = rw (ne-eqb (edition s) 1 h)
+
+  tests-refuse : edition s ≡ 1 → countsRight s && outsideClear s ≡ false → header s ≡ some (at-0 4)
+  unfolding header
+  tests-refuse h e = rw (eq-eqb (edition s) 1 h, e)
+
+  pub counts-refuse : edition s ≡ 1 → countsRight s ≡ false → header s ≡ some (at-0 4)
+  counts-refuse h e = tests-refuse h (rw e)
+
+  pub outside-refuses : edition s ≡ 1 → outsideClear s ≡ false → header s ≡ some (at-0 4)
+  outside-refuses h e = tests-refuse h (rw (e, and-false))
+
+  pub tests-pass : edition s ≡ 1 → countsRight s ≡ true → outsideClear s ≡ true → header s ≡ none
+  unfolding header
+  tests-pass h e d = rw (eq-eqb (edition s) 1 h, e, d)
+
+  pub right-counts : HeaderRight s → Counted s
+  right-counts h = record { some-node = h .some-node; most = h .most; few = h .few; size = h .size }
+
+  -- none exactly where the header is right
+  pub none-of-right : HeaderRight s → header s ≡ none
+  none-of-right h = tests-pass (h .edition) (counts-of s (right-counts h)) (outside-of s (h .gap) (h .tail) (h .tails))
+
+  pub right-of-tests : edition s ≡ 1 → countsRight s ≡ true → outsideClear s ≡ true → HeaderRight s
+  right-of-tests h e d =
+      let c = counts-at s e in
+      let o = outside-at s d in
+      record { edition = h; some-node = c .some-node; most = c .most; few = c .few; size = c .size; gap = o .0; tail = o .1; tails = o .2 }
+
+  pub rest-refuses : edition s ≡ 1 → (HeaderRight s → ⊥) → header s ≡ some (at-0 4)
+  rest-refuses h n = go (countsRight s) (outsideClear s) refl refl
+    where
+      go : (p q : Bool) → countsRight s ≡ p → outsideClear s ≡ q → header s ≡ some (at-0 4)
+      go true true e d = absurd (n (right-of-tests h e d))
+      go true false e d = outside-refuses h d
+      go false q e d = counts-refuse h e
+
+  pub right-of-none : header s ≡ none → HeaderRight s
+  right-of-none e = go (ℕ-discrete (edition s) 1) (countsRight s) (outsideClear s) refl refl
+    where
+      go : Dec (edition s ≡ 1) → (p q : Bool) → countsRight s ≡ p → outsideClear s ≡ q → HeaderRight s
+      go (no n) p q c o = absurd (Option·none-ne-some _ (sym e ∙ edition-refuses n))
+      go (yes h) true true c o = right-of-tests h c o
+      go (yes h) true false c o = absurd (Option·none-ne-some _ (sym e ∙ outside-refuses h o))
+      go (yes h) false q c o = absurd (Option·none-ne-some _ (sym e ∙ counts-refuse h c))
+
+  -- which refusal, and why
+  abbrev pub Reason : Refusal → Type 0
+  Reason r = ((r ≡ at-0 3) × (edition s ≡ 1 → ⊥)) ⊎ ((r ≡ at-0 4) × (edition s ≡ 1) × (HeaderRight s → ⊥))
+
+  pub why-refused : {r : Refusal} → header s ≡ some r → Reason r
+  why-refused {r} e = go (ℕ-discrete (edition s) 1)
+    where
+      wrong : HeaderRight s → ⊥
+      wrong h = Option·none-ne-some _ (sym (none-of-right h) ∙ e)
+
+      go : Dec (edition s ≡ 1) → Reason r
+      go (no n) = inl (cc (edition-refuses n), n)
+      go (yes h) = inr (cc (rest-refuses h wrong), h, wrong)

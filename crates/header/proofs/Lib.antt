@@ -1,0 +1,4 @@
+pub mod BelowLaws
+pub mod ZeroLaws
+pub mod HeaderLaws
+pub mod Spare

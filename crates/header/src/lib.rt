@@ -1,0 +1,149 @@
+// The header of a sheet: its counts, the bytes outside the records, and refusals 3 and 4.
+ghost use mathlib.Core.Path.{_≡_};
+ghost use Prim.Native.Nat.{_+_, _*_, _≤_, _<_};
+ghost use lib.ListN.{length};
+ghost use Rattle.layout.specs.Limits.{blocksFor, mostNodes, mostVariables};
+ghost use Rattle.layout.specs.Parts.{nodeCount, variableCount};
+ghost use Rattle.refusals.specs.Said.{saidOf};
+ghost use Rattle.header.specs.Header.{zeros, countsRight, usedIn, tailClear, outsideClear, header};
+use numbers::Refusal;
+use refusals::Reading;
+
+const BLOCK: usize = 512;
+
+const CONTENT: usize = 510;
+
+const HEADER: usize = 8;
+
+const VARIABLE: usize = 24;
+
+const NODE: usize = 16;
+
+const NODES_IN_BLOCK: usize = 31;
+
+const MOST_NODES: usize = 248;
+
+const MOST_VARIABLES: usize = 16;
+
+// N, the number of nodes.
+pub fn node_count(sheet: &[u8]) -> usize
+    requires { ⌜ 512 ≤ length (now sheet) ⌝ }
+    ensures { λ r. ⌜ r ≡ nodeCount (now (sheet .entry)) ⌝ }
+{
+    numbers::u16_at(sheet, 2) as usize
+}
+
+// V, the number of variables.
+pub fn variable_count(sheet: &[u8]) -> usize
+    requires { ⌜ 512 ≤ length (now sheet) ⌝ }
+    ensures { λ r. ⌜ r ≡ variableCount (now (sheet .entry)) ⌝ }
+{
+    numbers::byte_at(sheet, 4) as usize
+}
+
+// Whether n bytes from a place on are zero.
+pub fn clear(sheet: &[u8], at: usize, n: usize) -> bool
+    requires { ⌜ at + n ≤ length (now sheet) ⌝ }
+    ensures { λ r. ⌜ r ≡ zeros (now (sheet .entry)) at n ⌝ }
+{
+    let mut i = 0;
+    while i < n {
+        if sheet[at + i] != 0 {
+            return false;
+        }
+        i += 1;
+    }
+    true
+}
+
+// Whether the counts and the length keep their rules.
+fn counts_right(sheet: &[u8]) -> bool
+    requires { ⌜ 512 ≤ length (now sheet) ⌝ }
+    ensures { λ r. ⌜ r ≡ countsRight (now (sheet .entry)) ⌝ }
+{
+    let n = node_count(sheet);
+    let v = variable_count(sheet);
+    if n < 1 {
+        return false;
+    }
+    if MOST_NODES < n {
+        return false;
+    }
+    if MOST_VARIABLES < v {
+        return false;
+    }
+    sheet.len() == BLOCK * ((n + 30) / NODES_IN_BLOCK + 1)
+}
+
+// Where the used bytes of block k end.
+fn used_in(sheet: &[u8], k: usize) -> usize
+    requires { ⌜ (512 ≤ length (now sheet)) × (variableCount (now sheet) ≤ mostVariables) × (nodeCount (now sheet) ≤ mostNodes) × (k < 9) ⌝ }
+    ensures { λ r. ⌜ (r ≡ usedIn (now (sheet .entry)) k) × (r ≤ 510) ⌝ }
+{
+    if k == 0 {
+        return HEADER + VARIABLE * variable_count(sheet);
+    }
+    let n = node_count(sheet);
+    let before = NODES_IN_BLOCK * (k - 1);
+    if n <= before {
+        return 0;
+    }
+    if NODES_IN_BLOCK <= n - before {
+        return NODE * NODES_IN_BLOCK;
+    }
+    NODE * (n - before)
+}
+
+// Whether the content of block k is zero behind the used bytes.
+fn tail_clear(sheet: &[u8], k: usize) -> bool
+    requires { ⌜ (512 * k + 512 ≤ length (now sheet)) × (variableCount (now sheet) ≤ mostVariables) × (nodeCount (now sheet) ≤ mostNodes) × (k < 9) ⌝ }
+    ensures { λ r. ⌜ r ≡ tailClear (now (sheet .entry)) k ⌝ }
+{
+    let used = used_in(sheet, k);
+    clear(sheet, BLOCK * k + used, CONTENT - used)
+}
+
+// Whether the bytes outside the records are zero.
+fn outside_clear(sheet: &[u8]) -> bool
+    requires { ⌜ (length (now sheet) ≡ 512 * (blocksFor (nodeCount (now sheet)) + 1)) × (variableCount (now sheet) ≤ mostVariables) × (nodeCount (now sheet) ≤ mostNodes) ⌝ }
+    ensures { λ r. ⌜ r ≡ outsideClear (now (sheet .entry)) ⌝ }
+{
+    if !clear(sheet, 5, 3) {
+        return false;
+    }
+    let n = sheet.len() / BLOCK;
+    let mut k = 0;
+    while k < n {
+        if !tail_clear(sheet, k) {
+            return false;
+        }
+        k += 1;
+    }
+    true
+}
+
+// Refusals 3 and 4.
+pub fn read_header(sheet: &[u8]) -> Reading
+    requires { ⌜ 512 ≤ length (now sheet) ⌝ }
+    ensures { λ r. ⌜ saidOf r ≡ header (now (sheet .entry)) ⌝ }
+{
+    if numbers::u16_at(sheet, 0) != 1 {
+        return Reading::Refused(Refusal {
+            number: 3,
+            place: 0,
+        });
+    }
+    if !counts_right(sheet) {
+        return Reading::Refused(Refusal {
+            number: 4,
+            place: 0,
+        });
+    }
+    if !outside_clear(sheet) {
+        return Reading::Refused(Refusal {
+            number: 4,
+            place: 0,
+        });
+    }
+    Reading::Accepted
+}

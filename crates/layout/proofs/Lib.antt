@@ -1,0 +1,16 @@
+pub mod Made
+pub mod StartLaws
+pub mod GoalLaws
+pub mod Forward
+pub mod Backward
+pub mod FoldLaws
+pub mod KindLaws
+pub mod PartLaws
+pub mod SealLaws
+pub mod SheetLaws
+pub mod Written
+pub mod Unseal
+pub mod SheetBack
+pub mod Well
+pub mod Agree
+pub mod Example

@@ -1,0 +1,31 @@
+-- What the parts of a sheet are in every list of bytes. Assumes nothing.
+use Prim.Native.Nat.{ℕ, zero, suc, _+_, _<_}
+use mathlib.Core.Path.{_≡_, ap, _∙_}
+use mathlib.Core.List.{List}
+use native.Mathlib.Nat.{zero-add}
+use native.Mathlib.Omega.{arith}
+use lib.ListN.{length, getD}
+use Rattle.lists.specs.Places.{from}
+use Rattle.lists.proofs.RunLaws.{length-from}
+use Rattle.numbers.specs.Bytes.{Bytes}
+use Rattle.numbers.proofs.Bytes16.{u16-lt}
+use Rattle.meaning.specs.Rule.{noVariable}
+use Rattle.layout.specs.Limits.{nodePlace}
+use Rattle.layout.specs.Parts.{variableCount, variableAt, table, ruleIn}
+
+getD-from : {A : Type 0} (f : ℕ → A) (d : A) (n i j : ℕ) → j < n → getD (from f i n) j d ≡ f (i + j)
+getD-from f d zero i j h = absurd (omega arith)
+getD-from f d (suc n) i zero h = let e : i ≡ i + 0 = omega arith in ap f e
+getD-from f d (suc n) i (suc j) h = let e : suc i + j ≡ i + suc j = omega arith in getD-from f d n (suc i) j (omega arith) ∙ ap f e
+
+module _ (s : List ℕ) where
+  -- a node's value has 16 bits
+  pub words : Bytes s → (n : ℕ) → table s n .value < 65536
+  words b n = u16-lt s b (nodePlace n + 8)
+
+  -- the rule lists as many variables as the sheet counts, each at its number
+  pub variable-total : length (ruleIn s .variables) ≡ variableCount s
+  variable-total = length-from (variableAt s) 0 (variableCount s)
+
+  pub variable-is : (i : ℕ) → i < variableCount s → getD (ruleIn s .variables) i noVariable ≡ variableAt s i
+  variable-is i h = getD-from (variableAt s) noVariable (variableCount s) 0 i h ∙ ap (variableAt s) (zero-add i)

@@ -1,0 +1,9 @@
+pub mod Limits
+pub mod Checks
+pub mod Starts
+pub mod Goal
+pub mod Parts
+pub mod Nodes
+pub mod Sheet
+pub mod WellFormed
+pub mod Fold

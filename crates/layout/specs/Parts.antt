@@ -1,0 +1,86 @@
+-- The parts of a sheet, read from its bytes (document 01, "The sheet in 512-byte blocks").
+use Prim.Native.Nat.{ℕ, _+_, _-_, _*_, _≤_, _<_, min}
+use mathlib.Core.Path.{_≡_}
+use mathlib.Core.Bool.{true}
+use mathlib.Core.List.{List}
+use lib.ListN.{length, take, drop}
+use Rattle.lists.specs.Places.{from}
+use Rattle.numbers.specs.Bytes.{byteAt, u16At, i16At, Bytes}
+use Rattle.numbers.specs.Ranges.{_⋯_}
+use Rattle.meaning.specs.Rule.{Variable, Rule}
+use Rattle.kinds.specs.declared.Record.{Record}
+use Rattle.kinds.specs.Kinds.{kindOf}
+use Rattle.layout.specs.Limits.{blockBytes, contentBytes, mostNameBytes, mostVariables, nodeBytes, nodesInBlock, mostNodes, blocksFor, headerBytes, variableBytes, variablePlace, nodePlace}
+use Rattle.layout.specs.Checks.{blockRight}
+use Rattle.layout.specs.Goal.{goalOf, Sound}
+
+-- block 0: edition, node count N and variable count V
+abbrev pub edition : List ℕ → ℕ
+edition s = u16At s 0
+
+abbrev pub nodeCount : List ℕ → ℕ
+nodeCount s = u16At s 2
+
+abbrev pub variableCount : List ℕ → ℕ
+variableCount s = byteAt s 4
+
+-- the variable whose record stands at place i
+abbrev pub nameSize : List ℕ → ℕ → ℕ
+nameSize s i = byteAt s (i + 4)
+
+abbrev pub nameIn : List ℕ → ℕ → List ℕ
+nameIn s i = take (nameSize s i) (drop (i + 6) s)
+
+abbrev pub variableIn : List ℕ → ℕ → Variable
+variableIn s i = record { name = nameIn s i; domain = i16At s i ⋯ i16At s (i + 2) }
+
+-- variable i
+abbrev pub variableAt : List ℕ → ℕ → Variable
+variableAt s i = variableIn s (variablePlace i)
+
+-- the node whose record stands at place i
+abbrev pub recordIn : List ℕ → ℕ → Record
+recordIn s i = record {
+  kind = kindOf (byteAt s i);
+  a = u16At s (i + 2);
+  b = u16At s (i + 4);
+  c = u16At s (i + 6);
+  value = u16At s (i + 8);
+  spare = byteAt s (i + 1) + byteAt s (i + 10) + byteAt s (i + 11) + byteAt s (i + 12) + byteAt s (i + 13) + byteAt s (i + 14) + byteAt s (i + 15);
+}
+
+-- node n
+abbrev pub table : List ℕ → ℕ → Record
+table s n = recordIn s (nodePlace n)
+
+-- the rule that the bytes show
+abbrev pub ruleIn : List ℕ → Rule
+ruleIn s = record { variables = from (variableAt s) 0 (variableCount s); goal = goalOf (table s) (nodeCount s) }
+
+-- the n bytes from i on are zero
+abbrev pub Zeros : List ℕ → ℕ → ℕ → Type 0
+Zeros s i n = (j : ℕ) → j < n → byteAt s (i + j) ≡ 0
+
+-- the bytes that block k uses end here: after the variable records, or after those of the node records that fall in the block
+abbrev pub usedInNodeBlock : List ℕ → ℕ → ℕ
+usedInNodeBlock s b = nodeBytes * min nodesInBlock (nodeCount s - nodesInBlock * b)
+
+-- the variable record at place i is laid out right: the name's length, the zero byte, and zeros from the name's end to the record's
+pub record VariableLaidOut (s : List ℕ) (i : ℕ) : Type 0 where
+  pub short : nameSize s i ≤ mostNameBytes
+  pub gap : byteAt s (i + 5) ≡ 0
+  pub rest : Zeros s (i + 6 + nameSize s i) (18 - nameSize s i)
+
+-- a sheet that is laid out right; what the rule itself must meet beyond that is no part of the layout
+pub record LaidOut (s : List ℕ) : Type 0 where
+  pub bytes : Bytes s
+  pub size : length s ≡ blockBytes * (blocksFor (nodeCount s) + 1)
+  pub checks : (k : ℕ) → k < blocksFor (nodeCount s) + 1 → blockRight s k ≡ true
+  pub first-edition : edition s ≡ 1
+  pub few : variableCount s ≤ mostVariables
+  pub most : nodeCount s ≤ mostNodes
+  pub gap : Zeros s 5 3
+  pub tail : Zeros s (variablePlace (variableCount s)) (contentBytes - variablePlace (variableCount s))
+  pub tails : (b : ℕ) → b < blocksFor (nodeCount s) → Zeros s (blockBytes * (b + 1) + usedInNodeBlock s b) (contentBytes - usedInNodeBlock s b)
+  pub variables : (n : ℕ) → n < variableCount s → VariableLaidOut s (variablePlace n)
+  pub nodes : Sound (table s) (variableCount s) (nodeCount s)

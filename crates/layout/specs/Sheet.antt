@@ -1,0 +1,45 @@
+-- The sheet of a rule: written from document 01's layout, and apart from the reading.
+use Prim.Native.Nat.{ℕ, _-_, _*_}
+use mathlib.Core.List.{List, [], _∷_, _++_}
+use lib.ListN.{length, take, drop, replicate}
+use Rattle.lists.specs.Places.{from}
+use Rattle.numbers.specs.Two.{enc}
+use Rattle.numbers.specs.Bytes.{pair}
+use Rattle.meaning.specs.Rule.{Variable, Rule}
+use Rattle.kinds.specs.declared.Record.{Record}
+use Rattle.kinds.specs.Kinds.{row}
+use Rattle.layout.specs.Limits.{contentBytes, nodesInBlock, blocksFor}
+use Rattle.layout.specs.Checks.{sealed}
+use Rattle.layout.specs.Nodes.{nodesOf}
+
+-- a node record's 16 bytes
+abbrev pub recordBytes : Record → List ℕ
+recordBytes r = (row (r .kind) .byte ∷ 0 ∷ []) ++ (pair (r .a) ++ (pair (r .b) ++ (pair (r .c) ++ (pair (r .value) ++ replicate 6 0))))
+
+-- a variable record's 24 bytes
+abbrev pub variableRecord : Variable → List ℕ
+variableRecord v = pair (enc 16 (v .domain .low)) ++ (pair (enc 16 (v .domain .high)) ++ ((length (v .name) ∷ 0 ∷ []) ++ (v .name ++ replicate (18 - length (v .name)) 0)))
+
+abbrev pub joined : {A : Type 0} → (A → List ℕ) → List A → List ℕ
+joined g [] = []
+joined g (x ∷ xs) = g x ++ joined g xs
+
+-- a block's content: the bytes, and zeros up to 510
+abbrev pub filled : List ℕ → List ℕ
+filled l = l ++ replicate (contentBytes - length l) 0
+
+-- block 0: edition 1, n nodes, the number of variables, three zeros, and the variables' records
+abbrev pub firstContent : ℕ → List Variable → List ℕ
+firstContent n vs = filled (pair 1 ++ (pair n ++ ((length vs ∷ 0 ∷ 0 ∷ 0 ∷ []) ++ joined variableRecord vs)))
+
+-- node block b: 31 records from number 31 b on
+abbrev pub nodeContent : List Record → ℕ → List ℕ
+nodeContent rs b = filled (joined recordBytes (take nodesInBlock (drop (nodesInBlock * b) rs)))
+
+abbrev pub contentsOf : Rule → List (List ℕ)
+contentsOf r =
+    let rs : List Record = nodesOf 0 (r .goal) in
+    firstContent (length rs) (r .variables) ∷ from (nodeContent rs) 0 (blocksFor (length rs))
+
+unfoldable pub sheetOf : Rule → List ℕ
+sheetOf r = sealed 0 (contentsOf r)

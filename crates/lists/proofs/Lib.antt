@@ -1,0 +1,4 @@
+pub mod RunLaws
+pub mod CourseLaws
+pub mod TestLaws
+pub mod FirstLaws

@@ -1,0 +1,5 @@
+pub mod Places
+pub mod Run
+pub mod Course
+pub mod First
+pub mod Part

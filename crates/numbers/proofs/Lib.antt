@@ -1,0 +1,11 @@
+pub mod Zed
+pub mod OrderTests
+pub mod Cong
+pub mod Coding
+pub mod Modular
+pub mod Sound
+pub mod Monotone
+pub mod NarrowLaws
+pub mod Bytes16
+pub mod Fit
+pub mod Worked

@@ -1,0 +1,3 @@
+pub mod Two
+pub mod Bytes
+pub mod Ranges
