@@ -18,7 +18,7 @@ use Rattle.numbers.specs.declared.Refusal.{Refusal}
 use Rattle.layout.specs.Limits.{blockBytes, contentBytes, mostVariables, mostNodes, blocksFor, variablePlace}
 use Rattle.layout.specs.Parts.{edition, nodeCount, variableCount, usedInNodeBlock, Zeros}
 use Rattle.header.specs.Header.{zeros, countsRight, usedIn, tailClear, outsideClear, header, Counted}
-use Rattle.header.proofs.BelowLaws.{all-stop}
+use Rattle.lists.proofs.BelowLaws.{all-stop}
 use Rattle.header.proofs.ZeroLaws.{zeros-at, zeros-of}
 
 -- ---- the counts and the length

@@ -1,4 +1,3 @@
-pub mod BelowLaws
 pub mod ZeroLaws
 pub mod HeaderLaws
 pub mod Spare

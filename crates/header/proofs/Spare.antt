@@ -13,7 +13,7 @@ use Rattle.layout.specs.Limits.{blockBytes, contentBytes, mostVariables, nodeBy
 use Rattle.layout.specs.Parts.{edition, nodeCount, variableCount, usedInNodeBlock, Zeros}
 use Rattle.header.specs.Header.{zeros, tailClear, outsideClear, header, Counted}
 use Rattle.header.specs.MustBeZero.{MustBeZero, header-bytes, variable-record, past-variables, node-record, past-nodes}
-use Rattle.header.proofs.BelowLaws.{not-both, Lowest, lowest-of}
+use Rattle.lists.proofs.BelowLaws.{not-both, Lowest, lowest-of}
 use Rattle.header.proofs.ZeroLaws.{zero-within, not-zero-of}
 use Rattle.header.proofs.HeaderLaws.{counts-of, Tail, Tails, tail-first, tail-later, at-0, HeaderRight, right-counts, right-of-tests, rest-refuses, why-refused}
 

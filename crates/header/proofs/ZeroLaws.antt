@@ -9,7 +9,7 @@ use Rattle.lists.proofs.TestLaws.{all-true, all-of}
 use Rattle.numbers.specs.Bytes.{byteAt}
 use Rattle.layout.specs.Parts.{Zeros}
 use Rattle.header.specs.Header.{zeros}
-use Rattle.header.proofs.BelowLaws.{all-pass, all-stop, lowest-of}
+use Rattle.lists.proofs.BelowLaws.{all-pass, all-stop, lowest-of}
 
 module _ (s : List ℕ) (i n : ℕ) where
   pub zeros-at : zeros s i n ≡ true → Zeros s i n

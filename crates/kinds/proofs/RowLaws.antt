@@ -7,21 +7,11 @@ use Rattle.kinds.specs.declared.Kind.the-variants.{Unknown, True, False,
 use Rattle.kinds.specs.declared.Shape.{Shape}
 use Rattle.kinds.specs.declared.Shape.the-variants.{Wrong, Bare, Valued, Named, One, Two, Three}
 use Rattle.kinds.specs.Kinds.{row}
-use Rattle.kinds.specs.Rows.{Args, make, Known, Each, by-rows}
+use Rattle.kinds.specs.Rows.{Args, make, Known, Each, by-rows, eachOf, together, Throughout}
 
 module _ {ℓ} (P : (s : Sort) → Tree s → Type ℓ) where
   module _ (step : (k : Kind) → Known (row k .shape) → (x : Args (row k .shape)) → Each P (row k .shape) x → P (row k .gives) (make k x)) where
-    -- what the induction gives of each operand
-    abbrev pub each-of : (h : Shape) (x : Args h) → Each P h x
-    each-of Bare x = tt
-    each-of Valued x = tt
-    each-of Named x = tt
-    each-of (One s) x = by-rows P step x
-    each-of (Two s t) x = (by-rows P step (x .0), by-rows P step (x .1))
-    each-of (Three s t u) x = (by-rows P step (x .0), by-rows P step (x .1), by-rows P step (x .2))
-    each-of Wrong x = tt
-
-    pub rows-make : (k : Kind) (q : Known (row k .shape)) (x : Args (row k .shape)) → by-rows P step (make k x) ≡ step k q x (each-of (row k .shape) x)
+    pub rows-make : (k : Kind) (q : Known (row k .shape)) (x : Args (row k .shape)) → by-rows P step (make k x) ≡ step k q x (eachOf P (λ s t. by-rows P step t) (row k .shape) x)
     unfolding by-rows
     rows-make Unknown q x = absurd q
     rows-make True q x = refl
@@ -41,3 +31,8 @@ module _ {ℓ} (P : (s : Sort) → Tree s → Type ℓ) where
     rows-make Difference q x = refl
     rows-make Product q x = refl
     rows-make If q x = refl
+
+pub throughout-make : (Q : (s : Sort) → Tree s → Type 0) (k : Kind) → Known (row k .shape) → (x : Args (row k .shape))
+    → Throughout Q (make k x) ≡ (Q (row k .gives) (make k x) × together (row k .shape) x (eachOf (λ s t. Type 0) (λ s t. Throughout Q t) (row k .shape) x))
+unfolding Throughout
+throughout-make Q k q x = rows-make (λ s u. Type 0) (λ k q x y. Q (row k .gives) (make k x) × together (row k .shape) x y) k q x

@@ -79,3 +79,27 @@ module _ {ℓ} (P : (s : Sort) → Tree s → Type ℓ) where
   by-rows step (difference a b) = step Difference tt (a, b) (by-rows step a, by-rows step b)
   by-rows step (product a b) = step Product tt (a, b) (by-rows step a, by-rows step b)
   by-rows step (ite a b c) = step If tt (a, b, c) (by-rows step a, by-rows step b, by-rows step c)
+
+-- what holds of every tree, of each operand
+abbrev pub eachOf {ℓ} : (P : (s : Sort) → Tree s → Type ℓ) → ((s : Sort) (t : Tree s) → P s t) → (h : Shape) (x : Args h) → Each P h x
+eachOf P g Wrong x = tt
+eachOf P g Bare x = tt
+eachOf P g Valued x = tt
+eachOf P g Named x = tt
+eachOf P g (One s) x = g s x
+eachOf P g (Two s t) x = (g s (x .0), g t (x .1))
+eachOf P g (Three s t u) x = (g s (x .0), g t (x .1), g u (x .2))
+
+-- the operands' claims together
+abbrev pub together : (h : Shape) (x : Args h) → Each (λ s t. Type 0) h x → Type 0
+together Wrong x y = Unit {0}
+together Bare x y = Unit {0}
+together Valued x y = Unit {0}
+together Named x y = Unit {0}
+together (One s) x y = y
+together (Two s t) x y = y .0 × y .1
+together (Three s t u) x y = y .0 × y .1 × y .2
+
+-- the claim holds of a tree and of every tree in it
+unfoldable pub Throughout : ((s : Sort) → Tree s → Type 0) → {s : Sort} → Tree s → Type 0
+Throughout Q t = by-rows (λ s u. Type 0) (λ k q x y. Q (row k .gives) (make k x) × together (row k .shape) x y) t

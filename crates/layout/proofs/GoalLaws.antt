@@ -44,3 +44,13 @@ recast-as P Integer Integer x e h = h
 -- what holds of a node's tree holds of it as an operand of its sort
 pub operand-as {ℓ} : (P : (s : Sort) → Tree s → Type ℓ) (f : ℕ → Record) {s : Sort} (a : ℕ) → sortAt f a ≡ s → P (treeAt f a .0) (treeAt f a .1) → P s (ofSort s (treeAt f a))
 operand-as P f {s} a e h = recast-as P s (treeAt f a .0) (treeAt f a .1) (rw (tree-sort f a) e) h
+
+-- and the other way round
+recast-from {ℓ} : (P : (s : Sort) → Tree s → Type ℓ) (s t : Sort) (x : Tree t) → t ≡ s → P s (recast s t x) → P t x
+recast-from P Truth Truth x e h = h
+recast-from P Truth Integer x e h = absurd (let z : _≡_ {A = ℕ} 0 1 = cc in omega arith)
+recast-from P Integer Truth x e h = absurd (let z : _≡_ {A = ℕ} 0 1 = cc in omega arith)
+recast-from P Integer Integer x e h = h
+
+pub operand-from {ℓ} : (P : (s : Sort) → Tree s → Type ℓ) (f : ℕ → Record) {s : Sort} (a : ℕ) → sortAt f a ≡ s → P s (ofSort s (treeAt f a)) → P (treeAt f a .0) (treeAt f a .1)
+operand-from P f {s} a e h = recast-from P s (treeAt f a .0) (treeAt f a .1) (rw (tree-sort f a) e) h

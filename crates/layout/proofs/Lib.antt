@@ -1,10 +1,10 @@
 pub mod Made
 pub mod StartLaws
 pub mod GoalLaws
+pub mod ThroughoutLaws
 pub mod Forward
 pub mod Backward
 pub mod FoldLaws
-pub mod KindLaws
 pub mod PartLaws
 pub mod SealLaws
 pub mod SheetLaws

@@ -1,41 +1,16 @@
 -- What induction by shapes gives of a tree that is made of a kind, from what it gives of the operands. Assumes nothing.
 use Prim.Native.Nat.{ℕ}
-use mathlib.Core.Path.{_≡_, refl, ap, _∙_}
+use mathlib.Core.Path.{_≡_}
 use Rattle.meaning.specs.declared.Sort.{Sort}
 use Rattle.meaning.specs.Tree.{Tree}
 use Rattle.kinds.specs.declared.Kind.{Kind}
 use Rattle.kinds.specs.declared.Shape.{Shape}
-use Rattle.kinds.specs.declared.Shape.the-variants.{Wrong, Bare, Valued, Named, One, Two, Three}
 use Rattle.kinds.specs.Kinds.{row}
-use Rattle.kinds.specs.Rows.{Args, make, Known, Each, by-rows}
-use Rattle.kinds.proofs.RowLaws.{each-of, rows-make}
+use Rattle.kinds.specs.Rows.{Args, make, Known, eachOf}
+use Rattle.kinds.proofs.RowLaws.{rows-make}
 use Rattle.layout.specs.Nodes.{Listing, listBy, listing}
 use Rattle.layout.specs.WellFormed.{fineBy, Fine}
 use Rattle.layout.specs.Fold.{Found, foundIn, ofTree}
-
-module _ {ℓ} (P : (s : Sort) → Tree s → Type ℓ) where
-  -- what holds of every tree holds of each operand
-  abbrev pub eachOf : ((s : Sort) (t : Tree s) → P s t) → (h : Shape) (x : Args h) → Each P h x
-  eachOf g Wrong x = tt
-  eachOf g Bare x = tt
-  eachOf g Valued x = tt
-  eachOf g Named x = tt
-  eachOf g (One s) x = g s x
-  eachOf g (Two s t) x = (g s (x .0), g t (x .1))
-  eachOf g (Three s t u) x = (g s (x .0), g t (x .1), g u (x .2))
-
-  module _ (step : (k : Kind) → Known (row k .shape) → (x : Args (row k .shape)) → Each P (row k .shape) x → P (row k .gives) (make k x)) where
-    same : (h : Shape) (x : Args h) → each-of P step h x ≡ eachOf (λ s t. by-rows P step t) h x
-    same Wrong x = refl
-    same Bare x = refl
-    same Valued x = refl
-    same Named x = refl
-    same (One s) x = refl
-    same (Two s t) x = refl
-    same (Three s t u) x = refl
-
-    made : (k : Kind) (q : Known (row k .shape)) (x : Args (row k .shape)) → by-rows P step (make k x) ≡ step k q x (eachOf (λ s t. by-rows P step t) (row k .shape) x)
-    made k q x = rows-make P step k q x ∙ ap (step k q x) (same (row k .shape) x)
 
 -- by the shape, from what a node is made of: its records, whether it is fine, and what is found of it
 abbrev pub listMade : (h : Shape) → Kind → Args h → Listing
@@ -50,12 +25,12 @@ foundMade {A} step h x = foundIn A h x (eachOf (λ s t. A) (λ s t. ofTree step 
 module _ (k : Kind) (q : Known (row k .shape)) (x : Args (row k .shape)) where
   pub listing-make : listing (make k x) ≡ listMade (row k .shape) k x
   unfolding listing
-  listing-make = made (λ s u. Listing) (λ k q x. listBy (row k .shape) k x) k q x
+  listing-make = rows-make (λ s u. Listing) (λ k q x. listBy (row k .shape) k x) k q x
 
   pub fine-make : (v : ℕ) → Fine v (make k x) ≡ FineMade v (row k .shape) x
   unfolding Fine
-  fine-make v = made (λ s u. Type 0) (λ k q x. fineBy v (row k .shape) x) k q x
+  fine-make v = rows-make (λ s u. Type 0) (λ k q x. fineBy v (row k .shape) x) k q x
 
   pub found-make : {A : Type 0} (step : (k : Kind) → Found A (row k .shape) → A) → ofTree step (make k x) ≡ step k (foundMade step (row k .shape) x)
   unfolding ofTree
-  found-make {A} step = made (λ s u. A) (λ k q x y. step k (foundIn A (row k .shape) x y)) k q x
+  found-make {A} step = rows-make (λ s u. A) (λ k q x y. step k (foundIn A (row k .shape) x y)) k q x

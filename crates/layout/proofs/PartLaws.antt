@@ -6,17 +6,12 @@ use native.Mathlib.Nat.{zero-add}
 use native.Mathlib.Omega.{arith}
 use lib.ListN.{length, getD}
 use Rattle.lists.specs.Places.{from}
-use Rattle.lists.proofs.RunLaws.{length-from}
+use Rattle.lists.proofs.RunLaws.{length-from, getD-from}
 use Rattle.numbers.specs.Bytes.{Bytes}
 use Rattle.numbers.proofs.Bytes16.{u16-lt}
 use Rattle.meaning.specs.Rule.{noVariable}
 use Rattle.layout.specs.Limits.{nodePlace}
 use Rattle.layout.specs.Parts.{variableCount, variableAt, table, ruleIn}
-
-getD-from : {A : Type 0} (f : ℕ → A) (d : A) (n i j : ℕ) → j < n → getD (from f i n) j d ≡ f (i + j)
-getD-from f d zero i j h = absurd (omega arith)
-getD-from f d (suc n) i zero h = let e : i ≡ i + 0 = omega arith in ap f e
-getD-from f d (suc n) i (suc j) h = let e : suc i + j ≡ i + suc j = omega arith in getD-from f d n (suc i) j (omega arith) ∙ ap f e
 
 module _ (s : List ℕ) where
   -- a node's value has 16 bits

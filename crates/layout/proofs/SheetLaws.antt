@@ -20,7 +20,7 @@ use Rattle.layout.specs.Checks.{content, sealed}
 use Rattle.layout.specs.Starts.{shapeAt}
 use Rattle.layout.specs.Parts.{nodeCount, variableCount, nameSize, nameIn, variableIn, variableAt, recordIn, table, ruleIn, Zeros, VariableLaidOut, LaidOut}
 use Rattle.layout.specs.Sheet.{recordBytes, variableRecord, joined, filled, firstContent, nodeContent, contentsOf, sheetOf}
-use Rattle.layout.proofs.KindLaws.{kind-byte}
+use Rattle.kinds.proofs.KindLaws.{kind-byte}
 use Rattle.layout.proofs.PartLaws.{words}
 use Rattle.layout.proofs.Forward.{records-are}
 use Rattle.layout.proofs.SealLaws.{run-pair, content-is, sealed-is}

@@ -24,7 +24,7 @@ use Rattle.layout.specs.Starts.{shapeAt}
 use Rattle.layout.specs.Parts.{nameSize, nameIn, variableIn, recordIn, Zeros, VariableLaidOut}
 use Rattle.layout.specs.Sheet.{recordBytes, variableRecord, joined, filled}
 use Rattle.layout.specs.WellFormed.{FineVariable}
-use Rattle.layout.proofs.KindLaws.{byte-kind}
+use Rattle.kinds.proofs.KindLaws.{byte-kind}
 
 module _ (s : List ℕ) where
   pub pair-of : {i x e : ℕ} → Run (byteAt s) i (pair x) e → u16At s i ≡ x

@@ -21,7 +21,7 @@ use Rattle.layout.specs.Checks.{checkOf, sealed}
 use Rattle.layout.specs.Starts.{shapeAt, operandsOf, unusedOf, Listed, Placed}
 use Rattle.layout.specs.Sheet.{recordBytes, variableRecord, joined, filled}
 use Rattle.layout.specs.WellFormed.{FineVariable}
-use Rattle.layout.proofs.KindLaws.{byte-kind}
+use Rattle.kinds.proofs.KindLaws.{byte-kind}
 use Rattle.layout.proofs.StartLaws.{Before, lower}
 
 -- ---- bytes

@@ -1,5 +1,5 @@
 -- Laws of course-of-values recursion. Assumes nothing.
-use Prim.Native.Nat.{ℕ, zero, suc, _<_}
+use Prim.Native.Nat.{ℕ, zero, suc, _≤_, _<_}
 use mathlib.Core.Path.{_≡_, refl, _∙_, ap, sym, subst, fun-ext}
 use mathlib.Core.Logic.{⊎-elim, _⊎_, inl, inr}
 use mathlib.Core.List.{List}
@@ -30,6 +30,12 @@ module _ {A : Type 0} (d : A) (f : ℕ → (ℕ → A) → A) where
       (λ e. below-last n k e ∙ unfold course in sym (ap (λ (j : ℕ). f j (below d f j)) e))
       (λ l. below-other n k (λ e. omega arith) ∙ below-is n k l)
       (eq-or-lt-of-le (le-of-suc-le-suc h))
+
+  -- below n at any other number
+  pub below-past : (n k : ℕ) → n ≤ k → below d f n k ≡ d
+  unfolding below
+  below-past zero k h = refl
+  below-past (suc n) k h = below-other n k (λ e. omega arith) ∙ below-past n k (omega arith)
 
   -- an array that is filled from the front, and is full of d at first, is what is known below n
   pub filled-none : (k : ℕ) → at d (replicate k d) ≡ below d f 0

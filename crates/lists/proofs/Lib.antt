@@ -1,4 +1,7 @@
 pub mod RunLaws
 pub mod CourseLaws
 pub mod TestLaws
+pub mod BelowLaws
+pub mod Decided
 pub mod FirstLaws
+pub mod PartLaws

@@ -99,3 +99,9 @@ pub drop-from : {A : Type 0} (f : ℕ → A) (n i m : ℕ) → drop n (from f i 
 drop-from f zero i m = ap₂ (from f) (sym (add-zero i)) (sym (sub-zero m))
 drop-from f (suc n) i zero = ap (from f (i + suc n)) (sym (zero-sub (suc n)))
 drop-from f (suc n) i (suc m) = drop-from f n (suc i) m ∙ ap₂ (from f) (suc-add i n ∙ sym (add-suc i n)) (sym (suc-sub-suc m n))
+
+-- what a list of things has at a number
+pub getD-from : {A : Type 0} (f : ℕ → A) (d : A) (n i j : ℕ) → j < n → getD (from f i n) j d ≡ f (i + j)
+getD-from f d zero i j h = absurd (omega arith)
+getD-from f d (suc n) i zero h = let e : i ≡ i + 0 = omega arith in ap f e
+getD-from f d (suc n) i (suc j) h = let e : suc i + j ≡ i + suc j = omega arith in getD-from f d n (suc i) j (omega arith) ∙ ap f e

@@ -23,9 +23,12 @@ pub record Rule : Type 0 where
 abbrev pub noVariable : Variable
 noVariable = record { name = []; domain = pos 0 ⋯ pos 0 }
 
--- variable i's domain; past the last variable 0..0
+-- variable i, and its domain; past the last variable 0..0
+abbrev pub variableOf : Rule → ℕ → Variable
+variableOf r i = getD (r .variables) i noVariable
+
 abbrev pub domainOf : Rule → ℕ → Range
-domainOf r i = getD (r .variables) i noVariable .domain
+domainOf r i = variableOf r i .domain
 
 -- a case gives each variable a value of its domain
 pub record Case (r : Rule) (c : List ℤ) : Type 0 where

@@ -4,6 +4,7 @@ use mathlib.Core.Bool.{Bool, true, false, not}
 use lib.Dec.{T, not-T, lt→ltb, nleb→lt}
 use lib.IntN.{ℤ, pos, negsuc}
 use lib.Signed.{_≤ℤ_, _<ℤ_, leZ, ltZ, leZ-yes, ltZ-yes, ltZ-no, clashℤ}
+use Rattle.lists.proofs.Decided.{Decides}
 use lib.Ieee.Bits.{is-true, is-false}
 
 holds : {t : Bool} → t ≡ true → T t
@@ -43,3 +44,6 @@ lt-ltZ {a} {b} h = is-true (ltZ a b) (h .lt)
 
 pub le-ltZ : {a b : ℤ} → b ≤ℤ a → ltZ a b ≡ false
 le-ltZ {a} {b} h = is-false (ltZ a b) (not-T (ltZ a b) (λ t. clashℤ (ltZ-yes t) h))
+
+pub decides-leZ : (a b : ℤ) → Decides (leZ a b) (a ≤ℤ b)
+decides-leZ a b = (leZ-true, le-leZ)

@@ -8,7 +8,7 @@ use borrow.Author.Tests.{not-true, not-false}
 use Rattle.lists.specs.Places.{allBelow}
 use Rattle.lists.proofs.TestLaws.{all-of}
 use Rattle.header.specs.Header.{tailClear}
-use Rattle.header.proofs.BelowLaws.{all-pass}
+use Rattle.lists.proofs.BelowLaws.{all-pass}
 use Rattle.header.proofs.HeaderLaws.{outside-gap, outside-tail, outside-all}
 use Rattle.header.proofs.outside_clear.Statement.{statement}
 use Rattle.header.proofs.outside_clear.Tie as tie

@@ -1,0 +1,2 @@
+pub mod FindingLaws
+pub mod SoundFindings

@@ -1,0 +1,31 @@
+-- `difference` meets its contract: the operands' ranges are told and fit. Assumes nothing.
+use mathlib.Core.Path.{_∙_}
+use borrow.Author.Needs.{needs}
+use Rattle.findings.proofs.FindingLaws.{range-fits, two-ranges}
+use Rattle.numbers.specs.Ranges.{differenceOf}
+use Rattle.findings.proofs.difference.Statement.{statement}
+use Rattle.findings.proofs.difference.Tie as tie
+
+difference-requires : tie.Need-difference-requires
+difference-requires c κs =
+    let p = c .before .before .before .before .before .before .pre in
+    (range-fits (c .before .before .before .before .f .given .1) (p .0), range-fits (c .before .g .given .1) (p .1))
+
+returns-3 : tie.Need-returns-3
+returns-3 c =
+    let g = c .before .before .before in
+    c .ranged .ensures ∙ two-ranges differenceOf (g .before .before .before .f .given .1) (g .g .given .1) (c .before .difference .ensures)
+
+pub difference-spec : {M : Type 1} → statement M
+difference-spec =
+    tie.close
+    (tie.spec
+    (λ c. search needs)
+    (λ c. search needs)
+    (λ c. search needs)
+    (λ c. search needs)
+    (λ c. search needs)
+    (λ c. search needs)
+    difference-requires
+    (λ c κs. search needs)
+    returns-3)

@@ -1,0 +1,31 @@
+-- `product` meets its contract: the operands' ranges are told and fit. Assumes nothing.
+use mathlib.Core.Path.{_∙_}
+use borrow.Author.Needs.{needs}
+use Rattle.findings.proofs.FindingLaws.{range-fits, two-ranges}
+use Rattle.numbers.specs.Ranges.{productOf}
+use Rattle.findings.proofs.product.Statement.{statement}
+use Rattle.findings.proofs.product.Tie as tie
+
+product-requires : tie.Need-product-requires
+product-requires c κs =
+    let p = c .before .before .before .before .before .before .pre in
+    (range-fits (c .before .before .before .before .f .given .1) (p .0), range-fits (c .before .g .given .1) (p .1))
+
+returns-3 : tie.Need-returns-3
+returns-3 c =
+    let g = c .before .before .before in
+    c .ranged .ensures ∙ two-ranges productOf (g .before .before .before .f .given .1) (g .g .given .1) (c .before .product .ensures)
+
+pub product-spec : {M : Type 1} → statement M
+product-spec =
+    tie.close
+    (tie.spec
+    (λ c. search needs)
+    (λ c. search needs)
+    (λ c. search needs)
+    (λ c. search needs)
+    (λ c. search needs)
+    (λ c. search needs)
+    product-requires
+    (λ c κs. search needs)
+    returns-3)

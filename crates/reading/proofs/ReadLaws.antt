@@ -1,0 +1,104 @@
+-- The reading step by step: what each step's answer makes of the whole, and what it leaves for the next. Assumes nothing.
+use Prim.Native.Nat.{ℕ, _+_, _%_, _≤_, _<_}
+use mathlib.Core.Path.{_≡_, refl, sym, ap, _∙_}
+use mathlib.Core.Bool.{Bool, true, false, _&&_}
+use mathlib.Core.List.{List}
+use mathlib.Core.Option.{Option, none, some}
+use native.Mathlib.Omega.{arith}
+use borrow.Author.Tests.{lt-ltb, le-ltb}
+use lib.Dec.{ltb}
+use lib.ListN.{length}
+use Rattle.lists.specs.First.{_otherwise_}
+use Rattle.lists.proofs.FirstLaws.{otherwise-none, otherwise-some}
+use Rattle.numbers.specs.declared.Refusal.{Refusal}
+use Rattle.layout.specs.Limits.{mostVariables, variablePlace}
+use Rattle.layout.specs.Parts.{variableCount}
+use Rattle.refusals.specs.declared.Reading.{Reading}
+use Rattle.refusals.specs.declared.Reading.the-variants.{Accepted, Refused}
+use Rattle.refusals.specs.Said.{saidOf}
+use Rattle.blocks.specs.Early.{early}
+use Rattle.blocks.proofs.EarlyLaws.{early-none, right-length}
+use Rattle.header.specs.Header.{header, Counted}
+use Rattle.header.proofs.HeaderLaws.{right-of-none, right-counts}
+use Rattle.records.specs.Variables.{variables}
+use Rattle.nodes.specs.Nodes.{nodes}
+use Rattle.reading.specs.Cascade.{refusalOf}
+use Rattle.reading.specs.Name.{isNone, nameGiven}
+use Rattle.reading.proofs.RuleLaws.{accepted-counted}
+
+-- the answer of a step, in options
+some-of : {a : Reading} {o : Option Refusal} {r : Refusal} → saidOf a ≡ o → a ≡ Refused r → o ≡ some r
+some-of e d = sym e ∙ ap saidOf d
+
+none-of : {a : Reading} {o : Option Refusal} → saidOf a ≡ o → a ≡ Accepted → o ≡ none
+none-of e d = sym e ∙ ap saidOf d
+
+module _ (s : List ℕ) {a : Reading} (ea : saidOf a ≡ early s) where
+  pub by-blocks : {r : Refusal} → a ≡ Refused r → saidOf a ≡ refusalOf s
+  unfolding refusalOf
+  by-blocks d = ap saidOf d ∙ sym (otherwise-some _ (some-of ea d))
+
+  module _ (pa : a ≡ Accepted) where
+    pub one-block : 512 ≤ length s
+    one-block =
+        let w = right-length (length s) (early-none s (none-of ea pa) .0) in
+        let z = w .0 in
+        let y = w .1 in
+        long (length s) z y
+      where
+        long : (n : ℕ) → (n ≡ 0 → ⊥) → n % 512 ≡ 0 → 512 ≤ n
+        long n f g = omega arith
+
+    module _ {b : Reading} (eb : saidOf b ≡ header s) where
+      pub by-header : {r : Refusal} → b ≡ Refused r → saidOf b ≡ refusalOf s
+      unfolding refusalOf
+      by-header d = ap saidOf d ∙ sym (otherwise-none _ (none-of ea pa) ∙ otherwise-some _ (some-of eb d))
+
+      module _ (pb : b ≡ Accepted) where
+        pub counted : Counted s
+        counted = right-counts s (right-of-none s (none-of eb pb))
+
+        pub records-inside : (1024 ≤ length s) × (variableCount s ≤ mostVariables)
+        records-inside =
+            let c = counted in
+            let z = c .size in
+            let y = c .some-node in
+            (omega arith, c .few)
+
+        module _ {c : Reading} (ec : saidOf c ≡ variables s) where
+          pub by-variables : {r : Refusal} → c ≡ Refused r → saidOf c ≡ refusalOf s
+          unfolding refusalOf
+          by-variables d = ap saidOf d ∙ sym (otherwise-none _ (none-of ea pa) ∙ (otherwise-none _ (none-of eb pb) ∙ otherwise-some _ (some-of ec d)))
+
+          pub by-nodes : c ≡ Accepted → (d : Reading) → saidOf d ≡ nodes s → saidOf d ≡ refusalOf s
+          unfolding refusalOf
+          by-nodes pc d ed = ed ∙ sym (otherwise-none _ (none-of ea pa) ∙ (otherwise-none _ (none-of eb pb) ∙ otherwise-none _ (none-of ec pc)))
+
+-- ---- the name
+module _ (s : List ℕ) {a : Reading} (e : saidOf a ≡ refusalOf s) where
+  pub refused-name : (i : ℕ) {r : Refusal} → a ≡ Refused r → nameGiven s i ≡ false
+  unfolding nameGiven
+  refused-name i d = rw (some-of e d)
+
+  module _ (p : a ≡ Accepted) where
+    pub unlisted-name : (i : ℕ) → variableCount s ≤ i → nameGiven s i ≡ false
+    unfolding nameGiven
+    unlisted-name i h = rw (none-of e p, le-ltb i (variableCount s) h)
+
+    pub listed-name : (i : ℕ) → i < variableCount s → nameGiven s i ≡ true
+    unfolding nameGiven
+    listed-name i h = rw (none-of e p, lt-ltb i (variableCount s) h)
+
+    pub accepted-long : 512 ≤ length s
+    accepted-long =
+        let c = accepted-counted s (none-of e p) in
+        let z = c .size in
+        omega arith
+
+    pub name-inside : {i : ℕ} → i < variableCount s → variablePlace i + 261 ≤ length s
+    name-inside h =
+        let c = accepted-counted s (none-of e p) in
+        let z = c .size in
+        let y = c .some-node in
+        let f = c .few in
+        omega arith

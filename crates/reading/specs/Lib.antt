@@ -1,0 +1,4 @@
+pub mod Rows
+pub mod Cascade
+pub mod Lawful
+pub mod Name

@@ -1,0 +1,4 @@
+pub mod NameLaws
+pub mod VariableLaws
+pub mod StepLaws
+pub mod Unique

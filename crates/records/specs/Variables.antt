@@ -1,0 +1,59 @@
+-- Refusal 5 (document 01, "Variable record"): the lowest variable record that breaks a rule or repeats a lower one's name.
+use Prim.Native.Nat.{ℕ, _+_, _-_}
+use mathlib.Core.Bool.{Bool, true, false, not, _&&_, _||_}
+use mathlib.Core.List.{List, [], _∷_}
+use mathlib.Core.Option.{Option}
+use lib.Dec.{eqb, leb}
+use lib.Signed.{leZ}
+use Rattle.lists.specs.Places.{allBelow}
+use Rattle.lists.specs.First.{first}
+use Rattle.numbers.specs.declared.Refusal.{Refusal}
+use Rattle.numbers.specs.Bytes.{byteAt, i16At}
+use Rattle.layout.specs.Limits.{mostNameBytes, variablePlace}
+use Rattle.layout.specs.Parts.{variableCount, nameSize, nameIn}
+use Rattle.refusals.specs.Said.{unless}
+use Rattle.header.specs.Header.{zeros}
+
+-- ASCII: A to Z and a to z; 0 to 9; the underscore
+unfoldable pub isLetter : ℕ → Bool
+isLetter b = leb 65 b && leb b 90 || leb 97 b && leb b 122
+
+unfoldable pub isNameByte : ℕ → Bool
+isNameByte b = isLetter b || leb 48 b && leb b 57 || eqb b 95
+
+unfoldable pub allNameBytes : List ℕ → Bool
+allNameBytes [] = true
+allNameBytes (b ∷ bs) = isNameByte b && allNameBytes bs
+
+-- a name is a letter, then letters, digits or underscores
+unfoldable pub nameRight : List ℕ → Bool
+nameRight [] = false
+nameRight (b ∷ bs) = isLetter b && allNameBytes bs
+
+-- two names are the same, byte for byte
+unfoldable pub sameBytes : List ℕ → List ℕ → Bool
+sameBytes [] [] = true
+sameBytes [] (c ∷ cs) = false
+sameBytes (b ∷ bs) [] = false
+sameBytes (b ∷ bs) (c ∷ cs) = eqb b c && sameBytes bs cs
+
+-- the record at place i: min ≤ max, a name of 1 to 16 bytes that is a name, the zero byte, and zeros behind the name to the record's end
+unfoldable pub variableRight : List ℕ → ℕ → Bool
+variableRight s i =
+    leZ (i16At s i) (i16At s (i + 2))
+    && leb 1 (nameSize s i)
+    && leb (nameSize s i) mostNameBytes
+    && eqb (byteAt s (i + 5)) 0
+    && nameRight (nameIn s i)
+    && zeros s (i + 6 + nameSize s i) (18 - nameSize s i)
+
+-- no lower variable has variable n's name
+unfoldable pub fresh : List ℕ → ℕ → Bool
+fresh s n = allBelow (λ m. not (sameBytes (nameIn s (variablePlace m)) (nameIn s (variablePlace n)))) n
+
+-- refusal 5 at variable n
+abbrev pub variableRefusal : List ℕ → ℕ → Option Refusal
+variableRefusal s n = unless (variableRight s (variablePlace n) && fresh s n) 5 n
+
+abbrev pub variables : List ℕ → Option Refusal
+variables s = first (variableRefusal s) 0 (variableCount s)

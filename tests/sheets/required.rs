@@ -1,0 +1,234 @@
+// What a run must have met: every class of sheet, by its label, and every kind of answer. A list of its
+// own, apart from the code that makes the sheets: a class that is left out there is missed here.
+
+use std::collections::BTreeSet;
+
+const KINDS: [u8; 17] = [1, 2, 3, 4, 5, 6, 7, 8, 9, 10, 16, 17, 18, 19, 20, 21, 22];
+
+pub fn all() -> BTreeSet<String> {
+    let mut all = Vec::new();
+    accepted(&mut all);
+    whole_sheet(&mut all);
+    variables(&mut all);
+    nodes(&mut all);
+    types(&mut all);
+    ranges(&mut all);
+    at_once(&mut all);
+    bulk(&mut all);
+    edges(&mut all);
+    readings(&mut all);
+    names_and_blocks(&mut all);
+    all.into_iter().collect()
+}
+
+type All = Vec<String>;
+
+fn add(all: &mut All, prefix: &str, words: &str) {
+    all.extend(words.split('|').map(|word| format!("{}{}", prefix, word)));
+}
+
+fn accepted(all: &mut All) {
+    for nodes in [1, 2, 3, 30, 31, 32, 61, 62, 63, 92, 93, 94, 123, 124, 125, 154, 155, 156, 185, 186, 187] {
+        all.push(format!("accepted: N = {}", nodes));
+    }
+    add(all, "accepted: N = ", "216|217|218|247|248|248 and V = 16");
+    all.extend((0..=16).map(|variables| format!("accepted: V = {}", variables)));
+    all.extend(KINDS.iter().map(|kind| format!("accepted: a node of kind {}", kind)));
+    all.extend((1..=10).map(|kind| format!("accepted: goal of kind {}", kind)));
+    add(all, "accepted: names of length ", "1|16");
+    add(all, "accepted: constant ", "-32768|-1|0|32767");
+    add(all, "accepted: domain ", "-32768..32767|-32768..-32768|32767..32767|-1..0");
+    add(all, "accepted: ", "any|every name asked");
+}
+
+fn whole_sheet(all: &mut All) {
+    add(all, "1: ", "no bytes|less than a block|no multiple of 512|a multiple of 512 over 4,608");
+    add(all, "1: ", "no multiple of 512 over 4,608|every length, bytes at random|every length, checks right");
+    add(all, "1: ", "blocks about number 65,521");
+    for k in 0..9 {
+        add(
+            all,
+            "2: ",
+            &format!("content of block {0}|first check byte of block {0}|second check byte of block {0}", k),
+        );
+        add(all, &format!("2: check of block {} ", k), "begun at 0|equal modulo 65,521 alone");
+        all.push(format!("2: check of block {0} begun at {1}", k, k + 2));
+        all.push(format!("accepted: check of block {} at most 14", k));
+    }
+    for k in 1..9 {
+        all.push(format!("2: check of block {} begun at 1", k));
+        all.push(format!("2: check of block {0} begun at {0}", k));
+        all.push(format!("2: block {} and a later one", k - 1));
+    }
+    add(all, "2: ", "each byte changed in turn|any byte changed");
+    add(all, "3: edition ", "0|2|256|257|65535|any");
+    add(all, "4: N = ", "0, one block|0, some nodes|249|256|65,535|any over 248");
+    add(all, "4: V = ", "17|255|any over 16");
+    add(all, "4: ", "second byte of N|one block too short|one block too long|length any other");
+    add(all, "4: ", "a full last block, N one more|one node in the last block, N one less");
+    add(all, "4: ", "byte 5|byte 6|byte 7");
+    let node_tails = (1..9).map(|k| format!("bytes 496..509 of block {}", k));
+    let zones = ["variable slots from V on", "bytes 392..509 of block 0", "node slots from N on"];
+    for zone in zones.iter().map(|zone| zone.to_string()).chain(node_tails) {
+        add(all, &format!("4: {}, ", zone), "first byte|last byte|any byte");
+    }
+    all.extend((1..=8).map(|number| format!("{}: every name asked", number)));
+}
+
+fn variables(all: &mut All) {
+    add(all, "5: ", "min = max + 1|min over max|min = 0 and max = -1|min = 32,767 and max = -32,768");
+    add(
+        all,
+        "5: ",
+        "length 0|length 0 and no name|length 17|length 17 and a letter after the name|length over 16",
+    );
+    add(all, "5: ", "byte 5 of the record|byte 22 of the record|byte 23 of the record");
+    add(all, "5: ", "first byte past the length|last byte past the length|any byte past the length");
+    add(all, "5: ", "equal names|three equal names|a faulty record and a later equal name");
+    for byte in 0..=255u8 {
+        let (letter, later) = (byte.is_ascii_alphabetic(), byte.is_ascii_alphanumeric() || byte == b'_');
+        let answer = |right: bool| if right { "accepted" } else { "5" };
+        all.push(format!("{}: first character {}", answer(letter), byte));
+        all.push(format!("{}: later character {}", answer(later), byte));
+    }
+}
+
+/// The fields that a kind leaves zero, and those that hold its operands.
+const USES: [(&[u8], &str, &str); 6] = [
+    (&[1, 2], "a|b|c|value", ""),
+    (&[3, 18], "b|c|value", "a"),
+    (&[4, 5, 6, 7, 8, 9, 10, 19, 20, 21], "c|value", "a|b"),
+    (&[16], "a|b|c", ""),
+    (&[17], "b|c|value", ""),
+    (&[22], "value", "a|b|c"),
+];
+
+fn nodes(all: &mut All) {
+    for byte in [0, 11, 12, 13, 14, 15].iter().copied().chain(23..=255) {
+        all.push(format!("6: unknown kind {}", byte));
+    }
+    for (kinds, unused, operands) in USES {
+        for kind in kinds {
+            for field in unused.split('|') {
+                add(all, &format!("6: unused {} of kind {}, ", field, kind), "low byte|high byte");
+            }
+            for operand in operands.split('|').filter(|operand| !operand.is_empty()) {
+                let which = "one too low|one too high|256 off|elsewhere|missing";
+                add(all, &format!("6: operand {} of kind {} ", operand, kind), which);
+            }
+            for byte in [1, 10, 11, 12, 13, 14, 15] {
+                all.push(format!("6: byte {} of kind {}", byte, kind));
+            }
+        }
+    }
+    add(all, "6: variable ", "V|V + 1|16|65,535|256 more than a right one|0 of none");
+    add(all, "6: goal subtree not the whole table, goal ", "a truth value|an integer");
+}
+
+fn types(all: &mut All) {
+    for (kinds, _, operands) in USES {
+        for kind in kinds {
+            for operand in operands.split('|').filter(|operand| !operand.is_empty()) {
+                all.push(format!("7: operand {} of kind {}", operand, kind));
+            }
+            if operands.len() > 1 {
+                all.push(format!("7: every operand of kind {}", kind));
+            }
+        }
+    }
+    all.extend((16..=22).map(|kind| format!("7: goal of kind {}", kind)));
+}
+
+fn ranges(all: &mut All) {
+    for (answer, how) in [("accepted", "exactly"), ("8", "by one")] {
+        for end in ["low", "high"] {
+            all.push(format!("{}: kind 19 at the {} end, {}", answer, end, how));
+            all.push(format!("{}: kind 20 at the {} end, {}", answer, end, how));
+            all.extend(
+                (16..=22).map(|kind| format!("{}: {} end of a range of kind {}, {}", answer, end, kind, how)),
+            );
+        }
+        all.push(format!("{}: kind 18 at the high end, {}", answer, how));
+        let corners = [
+            "high end by low times low",
+            "high end by high times high",
+            "low end by low times high",
+            "low end by high times low",
+        ];
+        all.extend(corners.iter().map(|corner| format!("{}: kind 21 at the {}, {}", answer, corner, how)));
+    }
+    add(all, "accepted: ", "kind 18 down to -32,767");
+    add(
+        all,
+        "8: kind ",
+        "19 of the widest ranges|20 of the widest ranges|21 of the widest ranges|21 far out",
+    );
+}
+
+fn at_once(all: &mut All) {
+    add(all, "1: and fault ", "2|3|4|5|6|7|8");
+    add(all, "2: and fault ", "3|4|5|6|7|8");
+    add(all, "3: and fault ", "4|5|6|7|8");
+    add(all, "4: and fault ", "5|6|7|8");
+    add(all, "5: and fault ", "6|7|8");
+    for first in [6, 7, 8] {
+        all.extend([6, 7, 8].map(|second| format!("{}: before fault {} at a later node", first, second)));
+        add(all, &format!("{}: and the goal is ", first), "not the whole table|an integer");
+        add(all, &format!("{}: in block ", first), "1|2|3|4|5|6|7|8");
+    }
+    add(all, "6: and fault ", "7 at the same node|8 at the same node");
+    add(all, "", "7: at a goal that is not the whole table|8: at a goal that is not the whole table");
+    add(all, "any: ", "several faults");
+}
+
+fn bulk(all: &mut All) {
+    add(all, "any: ", "right length, bytes at random|right length, checks right");
+    add(all, "any: ", "bytes at random|bytes at random, checks right|header right, then bytes at random");
+    add(all, "any: ", "accepted but for some bytes, checks made anew|nodes at random, mostly right");
+    add(all, "any: ", "every block asked|every block asked by a number past all bytes");
+}
+
+fn edges(all: &mut All) {
+    add(all, "accepted: ", "sheet A|edge 4, 4,608 bytes|edge 7|edge 9|edge 9, and -32,768|edge 11");
+    add(all, "accepted: edge 11, and ", "32,755|-32,753");
+    add(
+        all,
+        "",
+        "4: worked check|2: worked check, one off|1: worked check, a byte short|1: worked check, a byte over",
+    );
+    add(all, "1: edge 4, ", "empty|5,120 bytes");
+    add(
+        all,
+        "8: ",
+        "edge 8|edge 9, and 1|edge 9, and -32,768, and -1|edge 10|edge 11, and 32,756|edge 11, and -32,754",
+    );
+    add(all, "", "2: edge 14|3: edge 14, check right|4: edge 15");
+}
+
+fn readings(all: &mut All) {
+    all.extend((2..=9).map(|blocks| format!("read: accepted, {} blocks", blocks)));
+    add(all, "read: 1 at 0, ", "no bytes|no multiple of 512|over 4,608");
+    all.extend((0..9).map(|k| format!("read: 2 at block {}", k)));
+    add(all, "read: ", "3 at 0|4 at 0");
+    all.extend((0..16).map(|variable| format!("read: 5 at variable {}", variable)));
+    // No range leaves, and no operand is wrong, at a node that has nothing before it.
+    add(all, "read: 6 at ", "the only node|node 0 of more|a node between|N - 1|no kind");
+    add(all, "read: 7 at ", "the only node|a node between|N - 1");
+    add(all, "read: 8 at ", "a node between|N - 1");
+    for number in [6, 7, 8] {
+        all.extend((1..=8).map(|k| format!("read: {} in block {}", number, k)));
+    }
+    all.extend(KINDS.iter().map(|kind| format!("read: 6 at kind {}", kind)));
+    all.extend(KINDS[2..].iter().map(|kind| format!("read: 7 at kind {}", kind)));
+    all.extend((18..=21).map(|kind| format!("read: 8 at kind {}", kind)));
+}
+
+fn names_and_blocks(all: &mut All) {
+    all.extend((0..16).map(|variable| format!("name: of variable {}", variable)));
+    all.extend((1..=16).map(|length| format!("name: of length {}", length)));
+    all.extend((1..=8).map(|number| format!("name: empty, refusal {}", number)));
+    add(all, "name: empty, ", "not below V");
+    all.extend((0..=9).map(|k| format!("block: {}", k)));
+    add(all, "block: ", "of a number over 9|of a number over 65,520");
+    add(all, "block: empty, ", "past the lent bytes|partly inside|check wrong");
+}
