@@ -80,7 +80,7 @@ check-is : checkOf 0 (1 ∷ (replicate 508 0 ++ (255 ∷ []))) ≡ 64531
 unfolding checkOf weighted
 check-is = refl
 
-size-is : length sheetA ≡ 1024
+pub size-is : length sheetA ≡ 1024
 unfolding sheetOf sealed checkOf weighted listing by-rows
 size-is = refl
 

@@ -77,13 +77,13 @@ module _ (Q : (s : Sort) → Tree s → Type 0) {f : ℕ → Record} {v N : ℕ}
   split (One s) n o t w all b j l g = all (f n .a) (b .0) (down-operand (f n .a) (t .0) w) j l (omega arith)
   split (Two s t) n o y w all b j l g =
       elim (decLt j (startAt f (f n .b))) [
-        yes d ↦ all (f n .a) (b .1 .0) (down-operand (f n .a) (y .1 .0) (w .0)) j l (omega arith)
+        | yes d ↦ all (f n .a) (b .1 .0) (down-operand (f n .a) (y .1 .0) (w .0)) j l (omega arith)
         | no d ↦ all (f n .b) (b .0) (down-operand (f n .b) (y .0) (w .1)) j (omega arith) (omega arith)
       ]
   split (Three s t u) n o y w all b j l g =
       elim (decLt j (startAt f (f n .c))) [
-        yes d ↦ elim (decLt j (startAt f (f n .b))) [
-          yes e ↦ all (f n .a) (b .1 .1 .0) (down-operand (f n .a) (y .1 .1 .0) (w .0)) j l (omega arith)
+        | yes d ↦ elim (decLt j (startAt f (f n .b))) [
+          | yes e ↦ all (f n .a) (b .1 .1 .0) (down-operand (f n .a) (y .1 .1 .0) (w .0)) j l (omega arith)
           | no e ↦ all (f n .b) (b .1 .0) (down-operand (f n .b) (y .1 .0) (w .1)) j (omega arith) (omega arith)
         ]
         | no d ↦ all (f n .c) (b .0) (down-operand (f n .c) (y .0) (w .2)) j (omega arith) (omega arith)
@@ -96,7 +96,7 @@ module _ (Q : (s : Sort) → Tree s → Type 0) {f : ℕ → Record} {v N : ℕ}
       let o = opened n l w in
       let e = start-is f n (lower p) in
       elim (ℕ-discrete j n) [
-        yes d ↦ subst Here (sym d) (o .0)
+        | yes d ↦ subst Here (sym d) (o .0)
         | no d ↦ split (shapeAt (f n)) n (p .ordered) (typed n l) (o .1) (λ a i q. down-below m a (omega arith) (omega arith) q) (lower p) j (rw e at s) (omega arith)
       ]
 

@@ -120,7 +120,7 @@ module _ {s : List ℕ} {n v : ℕ} {starts : List ℕ} {findings : List Finding
 
   pub all-fit : (j : ℕ) → Fits (fi j)
   all-fit j = elim (decLt j i) [
-    yes h ↦ rw (fi-is j h) (fits-of (findingAt s j) (refusal-parts s j (g .passed j h) .2))
+    | yes h ↦ rw (fi-is j h) (fits-of (findingAt s j) (refusal-parts s j (g .passed j h) .2))
     | no h ↦ rw (ap (λ (k : ℕ → Finding). k j) (g .findings-are) ∙ below-past Truth (step s) i j (omega arith)) tt
   ]
 
@@ -200,7 +200,7 @@ module _ {s : List ℕ} {n v : ℕ} {starts : List ℕ} {findings : List Finding
               starts-are = rw (add-one i) (filled-more 0 (startStep (table s)) starts i t (omega (arith, g .starts-size)) (g .starts-are) (et ∙ ap₂ (λ (a : Record) (k : ℕ → ℕ). startBy (shapeAt a) a i k) er (g .starts-are)));
               findings-are = rw (add-one i) (filled-more Truth (step s) findings i f (omega (arith, g .findings-size)) (g .findings-are) (d ∙ unfold ofNode course in refl));
               passed = λ j l. elim (decLt j i) [
-                yes k ↦ g .passed j k
+                | yes k ↦ g .passed j k
                 | no k ↦ let z : j ≡ i = omega arith in rw z (no-refusal s i placed-here (sym typed-is ∙ w .sorts) (sym (ap fitting d) ∙ w .fits))
               ];
             }

@@ -4,3 +4,7 @@ pub mod NodeRows
 pub mod Exact
 pub mod RuleLaws
 pub mod ReadLaws
+pub mod Bounds
+pub mod Change
+pub mod Unique
+pub mod Ranges

@@ -11,6 +11,7 @@ use lib.Dec.{eqb}
 use Rattle.lists.specs.First.{_otherwise_, first}
 use Rattle.lists.proofs.FirstLaws.{first-pass, first-stop}
 use Rattle.lists.proofs.TestLaws.{both, and}
+use Rattle.lists.proofs.Decided.{denied}
 use Rattle.numbers.specs.declared.Refusal.{Refusal}
 use Rattle.numbers.proofs.NarrowLaws.{narrow-of, narrow-false}
 use Rattle.meaning.specs.declared.Sort.{Sort}
@@ -21,11 +22,12 @@ use Rattle.layout.specs.Starts.{shapeAt, sortAt, operandsOf, sortsOf, unusedOf,
 use Rattle.layout.specs.Parts.{nodeCount, variableCount, table}
 use Rattle.refusals.specs.Said.{unless}
 use Rattle.order.specs.Order.{isKnown, inOrder, isListed, placed}
-use Rattle.order.proofs.OrderLaws.{of-known, of-ordered, of-listed, placed-of}
+use Rattle.order.proofs.OrderLaws.{decides-known, decides-ordered, decides-listed, placed-of}
 use Rattle.findings.specs.declared.Finding.{Finding}
 use Rattle.findings.specs.declared.Finding.the-variants.{Truth, Integer}
 use Rattle.findings.specs.Findings.{fitting}
 use Rattle.findings.specs.Steps.{sameSort}
+use Rattle.findings.proofs.FindingLaws.{decides-same}
 use Rattle.nodes.specs.Nodes.{findingAt, areSorted, typed, nodeRefusal, goalRefusal, goalAt, nodes}
 use Rattle.reading.specs.Rows.{Row6, unknown, unused, spare, misplaced, unlisted, Row7, Row8, GoalSubtree, GoalType, OfNode, row-6, row-7, row-8, OfGoal, goal-6, goal-7, Applies, node, goal}
 use Rattle.reading.proofs.Stages.{Stage, row, then, no-turn, of-node, of-goal}
@@ -46,35 +48,18 @@ subtree-in (goal-6 h) = h
 type-in : {s : List ℕ} → OfGoal s 7 → GoalType s
 type-in (goal-7 h) = h
 
--- a test that fails denies what it would follow from
-denied : {A B : Type 0} {b : Bool} → (A → b ≡ true) → b ≡ false → A → B
-denied f e a = absurd (true≢false (sym (f a) ∙ e))
-
 -- ---- sorts
-pub sort-true : (s t : Sort) → sameSort s t ≡ true → s ≡ t
-sort-true truth truth e = refl
-sort-true truth integer e = absurd (false≢true e)
-sort-true integer truth e = absurd (false≢true e)
-sort-true integer integer e = refl
-
-pub sort-of : (s t : Sort) → s ≡ t → sameSort s t ≡ true
-sort-of s t e = subst (λ (u : Sort). sameSort s u ≡ true) e (own s)
-  where
-    own : (s : Sort) → sameSort s s ≡ true
-    own truth = refl
-    own integer = refl
-
 sorted-true : (so : ℕ → Sort) (xs : List ℕ) (ss : List Sort) → areSorted so xs ss ≡ true → Sorted so xs ss
 sorted-true so [] ss e = tt
 sorted-true so (x ∷ xs) [] e = tt
 sorted-true so (x ∷ xs) (s ∷ ss) e =
     let w = both (sameSort (so x) s) (areSorted so xs ss) e in
-    (sort-true (so x) s (w .0), sorted-true so xs ss (w .1))
+    (decides-same (so x) s .0 (w .0), sorted-true so xs ss (w .1))
 
 sorted-of : (so : ℕ → Sort) (xs : List ℕ) (ss : List Sort) → Sorted so xs ss → areSorted so xs ss ≡ true
 sorted-of so [] ss h = refl
 sorted-of so (x ∷ xs) [] h = refl
-sorted-of so (x ∷ xs) (s ∷ ss) h = and (sort-of (so x) s (h .0)) (sorted-of so xs ss (h .1))
+sorted-of so (x ∷ xs) (s ∷ ss) h = and (decides-same (so x) s .1 (h .0)) (sorted-of so xs ss (h .1))
 
 pub typed-true : (f : ℕ → Record) (n : ℕ) → typed f n ≡ true → Typed f n
 unfolding typed
@@ -109,10 +94,10 @@ module _ (s : List ℕ) where
             → isListed (shapeAt r) r (variableCount s) ≡ d
             → a && b && c && d ≡ false
             → Row6 s n
-        go false b c d p q t u e = unknown (denied (of-known (shapeAt r)) p)
+        go false b c d p q t u e = unknown (denied (decides-known (shapeAt r)) .0 p)
         go true false c d p q t u e = clear (ℕ-discrete (unusedOf (shapeAt r) r) 0) (eqb-false _ 0 q)
-        go true true false d p q t u e = misplaced (denied (of-ordered (startAt (table s)) (operandsOf (shapeAt r) r) n) t)
-        go true true true false p q t u e = unlisted (denied (of-listed (shapeAt r) r (variableCount s)) u)
+        go true true false d p q t u e = misplaced (denied (decides-ordered (startAt (table s)) (operandsOf (shapeAt r) r) n) .0 t)
+        go true true true false p q t u e = unlisted (denied (decides-listed (shapeAt r) r (variableCount s)) .0 u)
         go true true true true p q t u e = absurd (true≢false e)
 
     row6-not : Placed (table s) (variableCount s) n → Row6 s n → ⊥
@@ -138,7 +123,7 @@ module _ (s : List ℕ) where
       stage-6 = row s placedHere (3 * n + 6) 6 n (λ e. node n 6 l (row-6 (row6-of e))) (λ e m p a. row6-not (placed-of e) (row6-in (of-node n 6 l (omega arith) (omega arith) refl a)))
 
       stage-7 : Stage s (3 * n + 7) (3 * n + 7 + 1) (unless (typed (table s) n) 7 n)
-      stage-7 = row s (typed (table s) n) (3 * n + 7) 7 n (λ e. node n 7 l (row-7 (denied (typed-of (table s) n) e))) (λ e m p a. row7-in (of-node n 7 l (omega arith) (omega arith) refl a) (typed-true (table s) n e))
+      stage-7 = row s (typed (table s) n) (3 * n + 7) 7 n (λ e. node n 7 l (row-7 (denied (typed-true (table s) n, typed-of (table s) n) .0 e))) (λ e m p a. row7-in (of-node n 7 l (omega arith) (omega arith) refl a) (typed-true (table s) n e))
 
       stage-8 : Stage s (3 * n + 8) (3 * n + 8 + 1) (unless (fitting (findingAt s n)) 8 n)
       stage-8 = row s (fitting (findingAt s n)) (3 * n + 8) 8 n (λ e. node n 8 l (row-8 (row8-of e))) (λ e m p a. row8-not e (row8-in (of-node n 8 l (omega arith) (omega arith) refl a)))
@@ -172,7 +157,7 @@ module _ (s : List ℕ) where
       let a : Stage s (3 * nodeCount s + 6) (3 * nodeCount s + 6 + 1) (unless (eqb (startAt (table s) (goalAt s)) 0) 6 (goalAt s)) =
       row s _ (3 * nodeCount s + 6) 6 (goalAt s) (λ e. goal 6 (goal-6 (eqb-false _ 0 e))) (λ e m p x. subtree-in (of-goal 6 (omega arith) refl x) (eqb-true _ 0 e)) in
       let b : Stage s (3 * nodeCount s + 7) (3 * nodeCount s + 7 + 1) (unless (sameSort (sortAt (table s) (goalAt s)) truth) 7 (goalAt s)) =
-      row s _ (3 * nodeCount s + 7) 7 (goalAt s) (λ e. goal 7 (goal-7 (denied (sort-of _ truth) e))) (λ e m p x. type-in (of-goal 7 (omega arith) refl x) (sort-true _ truth e)) in
+      row s _ (3 * nodeCount s + 7) 7 (goalAt s) (λ e. goal 7 (goal-7 (denied (decides-same _ truth) .0 e))) (λ e m p x. type-in (of-goal 7 (omega arith) refl x) (decides-same _ truth .0 e)) in
       let p : 3 * nodeCount s + 6 + 1 ≡ 3 * nodeCount s + 7 = omega arith in
       let q : 3 * nodeCount s + 7 + 1 ≡ 3 * nodeCount s + 8 = omega arith in
       then s _ _ (omega arith) (omega arith) (rw p at a) (λ e. rw q at b)

@@ -49,11 +49,11 @@ use Rattle.order.proofs.OrderLaws.{placed-of, placed-true}
 use Rattle.findings.specs.declared.Finding.{Finding}
 use Rattle.findings.specs.declared.Finding.the-variants.{Truth as found-truth}
 use Rattle.findings.specs.Findings.{findingOf, fitting, Fits}
-use Rattle.findings.proofs.FindingLaws.{fits-of, fits-true}
+use Rattle.findings.proofs.FindingLaws.{fits-of, fits-true, decides-same}
 use Rattle.nodes.specs.Nodes.{findingAt, nodeRefusal, nodes}
 use Rattle.reading.specs.Cascade.{refusalOf, ruleOf}
 use Rattle.reading.specs.Lawful.{FitsIn, Lawful, Allowed}
-use Rattle.reading.proofs.NodeRows.{sort-true, sort-of, typed-true, typed-of}
+use Rattle.reading.proofs.NodeRows.{typed-true, typed-of}
 
 -- a name has a byte
 name-long : (s : List ℕ) (i : ℕ) → Name (nameIn s i) → 1 ≤ nameSize s i
@@ -113,20 +113,20 @@ module _ (s : List ℕ) where
       record {
         each = λ n h. node-right n (first-none (nodeRefusal s) (nodeCount s) 0 (a .0) n (omega arith) (rw zero-add h));
         whole = eqb-true _ 0 (unless-none _ 6 _ (b .0));
-        goal = sort-true _ Truth (unless-none _ 7 _ (b .1));
+        goal = decides-same _ Truth .0 (unless-none _ 7 _ (b .1));
       }
 
   right-nodes : NodesRight → nodes s ≡ none
   unfolding nodes
   right-nodes h =
       otherwise-none _ (none-first (nodeRefusal s) (nodeCount s) 0 (λ n g l. right-node n (h .each n (rw zero-add at l))))
-      ∙ (otherwise-none _ (unless-true 6 _ (eq-eqb _ 0 (h .whole))) ∙ unless-true 7 _ (sort-of _ Truth (h .goal)))
+      ∙ (otherwise-none _ (unless-true 6 _ (eq-eqb _ 0 (h .whole))) ∙ unless-true 7 _ (decides-same _ Truth .1 (h .goal)))
 
   sound : 1 ≤ nodeCount s → NodesRight → Sound (table s) (variableCount s) (nodeCount s)
   sound l h = record { some-node = l; placed = λ j k. h .each j k .placed; typed = λ j k. h .each j k .typed; whole = h .whole; goal = h .goal }
 
   -- a node's finding is that of its tree
-  finding-is : Sound (table s) (variableCount s) (nodeCount s) → (n : ℕ) → n < nodeCount s → findingAt s n ≡ ofTree (findingOf (domainOf (ruleIn s))) (treeAt (table s) n .1)
+  pub finding-is : Sound (table s) (variableCount s) (nodeCount s) → (n : ℕ) → n < nodeCount s → findingAt s n ≡ ofTree (findingOf (domainOf (ruleIn s))) (treeAt (table s) n .1)
   finding-is h n l = found-is (findingOf (domainOf (ruleIn s))) found-truth (table s) (h .placed) (h .typed) n l
 
   -- a variable of the rule is one of the sheet's
@@ -138,8 +138,8 @@ module _ (s : List ℕ) where
 
   -- ---- an accepted sheet
   module _ (e : refusalOf s ≡ none) where
-    kept : (n : ℕ) → n < variableCount s → VariableKept s n
-    kept = variables-none s .0 (passed e .variables-passed)
+    pub accepted-kept : (n : ℕ) → n < variableCount s → VariableKept s n
+    accepted-kept = variables-none s .0 (passed e .variables-passed)
 
     blocks-right : (k : ℕ) → k < blocksFor (nodeCount s) + 1 → blockRight s k ≡ true
     blocks-right k h =
@@ -151,6 +151,9 @@ module _ (s : List ℕ) where
 
     pub accepted-sound : Sound (table s) (variableCount s) (nodeCount s)
     accepted-sound = sound (right-of-none s (passed e .header-passed) .some-node) (nodes-right (passed e .nodes-passed))
+
+    pub accepted-fits : (n : ℕ) → n < nodeCount s → Fits (findingAt s n)
+    accepted-fits n l = nodes-right (passed e .nodes-passed) .each n l .fits
 
     pub accepted-laid-out : Bytes s → LaidOut s
     accepted-laid-out bytes =
@@ -165,17 +168,17 @@ module _ (s : List ℕ) where
           gap = h .gap;
           tail = h .tail;
           tails = h .tails;
-          variables = λ n l. laid-out s (variablePlace n) (kept n l .0);
+          variables = λ n l. laid-out s (variablePlace n) (accepted-kept n l .0);
           nodes = accepted-sound;
         }
 
     pub accepted-lawful : Lawful (ruleIn s)
     accepted-lawful =
         record {
-          names = λ i l. rw (variable-is s i (counted l)) (kept i (counted l) .0 .name);
-          distinct = λ i j l k d. kept j (counted k) .1 i l (rw (variable-is s i (omega (arith, counted k)), variable-is s j (counted k)) at d);
-          domains = λ i l. rw (variable-is s i (counted l)) (kept i (counted l) .0 .order);
-          ranges = goal-throughout (FitsIn (ruleIn s)) accepted-sound (λ j l. rw (finding-is accepted-sound j l) at (nodes-right (passed e .nodes-passed) .each j l .fits));
+          names = λ i l. rw (variable-is s i (counted l)) (accepted-kept i (counted l) .0 .name);
+          distinct = λ i j l k d. accepted-kept j (counted k) .1 i l (rw (variable-is s i (omega (arith, counted k)), variable-is s j (counted k)) at d);
+          domains = λ i l. rw (variable-is s i (counted l)) (accepted-kept i (counted l) .0 .order);
+          ranges = goal-throughout (FitsIn (ruleIn s)) accepted-sound (λ j l. rw (finding-is accepted-sound j l) at (accepted-fits j l));
         }
 
   -- ---- and back

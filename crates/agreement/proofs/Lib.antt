@@ -1,0 +1,2 @@
+pub mod StarredCases
+pub mod Applied

@@ -1,0 +1,24 @@
+-- Document 01's starred cases, by running the definitions. Assumes nothing.
+use mathlib.Core.Path.{_≡_, refl}
+use mathlib.Core.List.{map}
+use Rattle.lists.specs.Places.{allBelow}
+use Rattle.lists.specs.Course.{below, course}
+use Rattle.lists.specs.First.{first}
+use Rattle.numbers.specs.Two.{dec}
+use Rattle.numbers.specs.Ranges.{isNarrow, hasNarrowEnds, leastOf, greatestOf}
+use Rattle.kinds.specs.Kinds.{find, kindOf}
+use Rattle.layout.specs.Checks.{weighted, checkOf, blockRight}
+use Rattle.layout.specs.Starts.{startAt}
+use Rattle.layout.specs.Fold.{ofNode}
+use Rattle.blocks.specs.Early.{lengthRight, early}
+use Rattle.header.specs.Header.{zeros, countsRight, tailClear, outsideClear, header}
+use Rattle.records.specs.Variables.{isLetter, isNameByte, allNameBytes, nameRight, sameBytes, variableRight, fresh}
+use Rattle.findings.specs.Findings.{findingOf}
+use Rattle.order.specs.Order.{placed}
+use Rattle.nodes.specs.Nodes.{typed, nodeRefusal, nodes}
+use Rattle.reading.specs.Cascade.{refusalOf}
+use Rattle.agreement.specs.Starred.{table, run, told}
+
+pub starred : map run table ≡ map told table
+unfolding allBelow below course first dec isNarrow hasNarrowEnds leastOf greatestOf find kindOf weighted checkOf blockRight startAt ofNode lengthRight early zeros countsRight tailClear outsideClear header isLetter isNameByte allNameBytes nameRight sameBytes variableRight fresh findingOf placed typed nodeRefusal nodes refusalOf
+starred = refl

@@ -1,0 +1,90 @@
+-- The worked check and the starred cases of document 01, "Cases at each edge": one table. A row is a whole sheet's bytes, what `read` answers and, where a range is
+-- named, what that node is found to be.
+use Prim.Native.Nat.{ℕ, _-_}
+use mathlib.Core.List.{List, [], _∷_, _++_, map}
+use mathlib.Core.Option.{Option, none, some}
+use lib.IntN.{pos, negsuc}
+use lib.ListN.{length, replicate}
+use Rattle.numbers.specs.declared.Refusal.{Refusal}
+use Rattle.numbers.specs.Ranges.{_⋯_}
+use Rattle.findings.specs.declared.Finding.{Finding}
+use Rattle.findings.specs.declared.Finding.the-variants.{Integer}
+use Rattle.nodes.specs.Nodes.{findingAt}
+use Rattle.reading.specs.Cascade.{refusalOf}
+
+-- a block: its first bytes, zeros up to 510, and the stored check's two bytes
+abbrev pub block : List ℕ → ℕ → ℕ → List ℕ
+block used low high = used ++ (replicate (510 - length used) 0 ++ (low ∷ high ∷ []))
+
+pub record Row : Type 0 where
+  pub sheet : List ℕ
+  pub answer : Option Refusal
+  pub ranges : List (ℕ × Finding)
+
+-- the worked check: byte 0 is 1, byte 509 is 255 and the rest zero, stored 13 FC; the check is right, so what is wrong is N
+abbrev pub worked : Row
+worked = record {
+  sheet = block (1 ∷ (replicate 508 0 ++ (255 ∷ []))) 0x13 0xfc;
+  answer = some (record { number = 4; place = 0 });
+  ranges = [];
+}
+
+-- 7: 16,384 + 16,383 passes
+abbrev pub case7 : Row
+case7 = record {
+  sheet =
+      block (1 ∷ 0 ∷ 5 ∷ []) 17 0
+      ++ block (16 ∷ 0 ∷ 0 ∷ 0 ∷ 0 ∷ 0 ∷ 0 ∷ 0 ∷ 0 ∷ 64 ∷ 0 ∷ 0 ∷ 0 ∷ 0 ∷ 0 ∷ 0 ∷ 16 ∷ 0 ∷ 0 ∷ 0 ∷ 0 ∷ 0 ∷ 0 ∷ 0 ∷ 255 ∷ 63 ∷ 0 ∷ 0 ∷ 0 ∷ 0 ∷ 0 ∷ 0 ∷ 19 ∷ 0 ∷ 0 ∷ 0 ∷ 1 ∷ 0 ∷ 0 ∷ 0 ∷ 0 ∷ 0 ∷ 0 ∷ 0 ∷ 0 ∷ 0 ∷ 0 ∷ 0 ∷ 16 ∷ 0 ∷ 0 ∷ 0 ∷ 0 ∷ 0 ∷ 0 ∷ 0 ∷ 255 ∷ 127 ∷ 0 ∷ 0 ∷ 0 ∷ 0 ∷ 0 ∷ 0 ∷ 8 ∷ 0 ∷ 2 ∷ 0 ∷ 3 ∷ []) 129 129;
+  answer = none;
+  ranges = (2, Integer (pos 32767 ⋯ pos 32767)) ∷ [];
+}
+
+-- 8: 16,384 + 16,384 gives 8
+abbrev pub case8 : Row
+case8 = record {
+  sheet =
+      block (1 ∷ 0 ∷ 5 ∷ []) 17 0
+      ++ block (16 ∷ 0 ∷ 0 ∷ 0 ∷ 0 ∷ 0 ∷ 0 ∷ 0 ∷ 0 ∷ 64 ∷ 0 ∷ 0 ∷ 0 ∷ 0 ∷ 0 ∷ 0 ∷ 16 ∷ 0 ∷ 0 ∷ 0 ∷ 0 ∷ 0 ∷ 0 ∷ 0 ∷ 0 ∷ 64 ∷ 0 ∷ 0 ∷ 0 ∷ 0 ∷ 0 ∷ 0 ∷ 19 ∷ 0 ∷ 0 ∷ 0 ∷ 1 ∷ 0 ∷ 0 ∷ 0 ∷ 0 ∷ 0 ∷ 0 ∷ 0 ∷ 0 ∷ 0 ∷ 0 ∷ 0 ∷ 16 ∷ 0 ∷ 0 ∷ 0 ∷ 0 ∷ 0 ∷ 0 ∷ 0 ∷ 255 ∷ 127 ∷ 0 ∷ 0 ∷ 0 ∷ 0 ∷ 0 ∷ 0 ∷ 8 ∷ 0 ∷ 2 ∷ 0 ∷ 3 ∷ []) 180 104;
+  answer = some (record { number = 8; place = 2 });
+  ranges = [];
+}
+
+-- 9: minus of -32,767..0 is 0..32,767
+abbrev pub case9 : Row
+case9 = record {
+  sheet =
+      block (1 ∷ 0 ∷ 4 ∷ 0 ∷ 1 ∷ 0 ∷ 0 ∷ 0 ∷ 1 ∷ 128 ∷ 0 ∷ 0 ∷ 1 ∷ 0 ∷ 120 ∷ []) 49 12
+      ++ block (17 ∷ 0 ∷ 0 ∷ 0 ∷ 0 ∷ 0 ∷ 0 ∷ 0 ∷ 0 ∷ 0 ∷ 0 ∷ 0 ∷ 0 ∷ 0 ∷ 0 ∷ 0 ∷ 18 ∷ 0 ∷ 0 ∷ 0 ∷ 0 ∷ 0 ∷ 0 ∷ 0 ∷ 0 ∷ 0 ∷ 0 ∷ 0 ∷ 0 ∷ 0 ∷ 0 ∷ 0 ∷ 16 ∷ 0 ∷ 0 ∷ 0 ∷ 0 ∷ 0 ∷ 0 ∷ 0 ∷ 0 ∷ 0 ∷ 0 ∷ 0 ∷ 0 ∷ 0 ∷ 0 ∷ 0 ∷ 10 ∷ 0 ∷ 1 ∷ 0 ∷ 2 ∷ []) 220 5;
+  answer = none;
+  ranges = (0, Integer (negsuc 32766 ⋯ pos 0)) ∷ (1, Integer (pos 0 ⋯ pos 32767)) ∷ [];
+}
+
+-- 10: minus of -32,768..0 gives 8
+abbrev pub case10 : Row
+case10 = record {
+  sheet =
+      block (1 ∷ 0 ∷ 4 ∷ 0 ∷ 1 ∷ 0 ∷ 0 ∷ 0 ∷ 0 ∷ 128 ∷ 0 ∷ 0 ∷ 1 ∷ 0 ∷ 120 ∷ []) 40 12
+      ++ block (17 ∷ 0 ∷ 0 ∷ 0 ∷ 0 ∷ 0 ∷ 0 ∷ 0 ∷ 0 ∷ 0 ∷ 0 ∷ 0 ∷ 0 ∷ 0 ∷ 0 ∷ 0 ∷ 18 ∷ 0 ∷ 0 ∷ 0 ∷ 0 ∷ 0 ∷ 0 ∷ 0 ∷ 0 ∷ 0 ∷ 0 ∷ 0 ∷ 0 ∷ 0 ∷ 0 ∷ 0 ∷ 16 ∷ 0 ∷ 0 ∷ 0 ∷ 0 ∷ 0 ∷ 0 ∷ 0 ∷ 0 ∷ 0 ∷ 0 ∷ 0 ∷ 0 ∷ 0 ∷ 0 ∷ 0 ∷ 10 ∷ 0 ∷ 1 ∷ 0 ∷ 2 ∷ []) 220 5;
+  answer = some (record { number = 8; place = 1 });
+  ranges = [];
+}
+
+-- 11: -3..2 times -4..5 has range -15..12
+abbrev pub case11 : Row
+case11 = record {
+  sheet =
+      block (1 ∷ 0 ∷ 5 ∷ 0 ∷ 2 ∷ 0 ∷ 0 ∷ 0 ∷ 253 ∷ 255 ∷ 2 ∷ 0 ∷ 1 ∷ 0 ∷ 120 ∷ 0 ∷ 0 ∷ 0 ∷ 0 ∷ 0 ∷ 0 ∷ 0 ∷ 0 ∷ 0 ∷ 0 ∷ 0 ∷ 0 ∷ 0 ∷ 0 ∷ 0 ∷ 0 ∷ 0 ∷ 252 ∷ 255 ∷ 5 ∷ 0 ∷ 1 ∷ 0 ∷ 121 ∷ []) 190 111
+      ++ block (17 ∷ 0 ∷ 0 ∷ 0 ∷ 0 ∷ 0 ∷ 0 ∷ 0 ∷ 0 ∷ 0 ∷ 0 ∷ 0 ∷ 0 ∷ 0 ∷ 0 ∷ 0 ∷ 17 ∷ 0 ∷ 1 ∷ 0 ∷ 0 ∷ 0 ∷ 0 ∷ 0 ∷ 0 ∷ 0 ∷ 0 ∷ 0 ∷ 0 ∷ 0 ∷ 0 ∷ 0 ∷ 21 ∷ 0 ∷ 0 ∷ 0 ∷ 1 ∷ 0 ∷ 0 ∷ 0 ∷ 0 ∷ 0 ∷ 0 ∷ 0 ∷ 0 ∷ 0 ∷ 0 ∷ 0 ∷ 16 ∷ 0 ∷ 0 ∷ 0 ∷ 0 ∷ 0 ∷ 0 ∷ 0 ∷ 12 ∷ 0 ∷ 0 ∷ 0 ∷ 0 ∷ 0 ∷ 0 ∷ 0 ∷ 10 ∷ 0 ∷ 2 ∷ 0 ∷ 3 ∷ []) 188 13;
+  answer = none;
+  ranges = (2, Integer (negsuc 14 ⋯ pos 12)) ∷ [];
+}
+
+abbrev pub table : List Row
+table = worked ∷ case7 ∷ case8 ∷ case9 ∷ case10 ∷ case11 ∷ []
+
+-- what the definitions give of a row, and what the row says
+abbrev pub run : Row → Option Refusal × List (ℕ × Finding)
+run r = (refusalOf (r .sheet), map (λ (p : ℕ × Finding). (p .0, findingAt (r .sheet) (p .0))) (r .ranges))
+
+abbrev pub told : Row → Option Refusal × List (ℕ × Finding)
+told r = (r .answer, r .ranges)

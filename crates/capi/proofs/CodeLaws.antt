@@ -1,0 +1,120 @@
+-- The numbers of the C interface tell the answers, and where the returned parts lie. Assumes nothing.
+use Prim.Native.Nat.{ℕ, _+_, _-_, _*_, _/_, _%_, _^_, _≤_, _<_}
+use mathlib.Core.Path.{_≡_, refl, sym, ap, _∙_}
+use mathlib.Core.Bool.{Bool, true, false, cond, false≢true}
+use mathlib.Core.List.{List}
+use mathlib.Core.Option.{Option, none, some}
+use native.Mathlib.Omega.{arith}
+use borrow.Author.Tests.{ltb-true}
+use denote.Ref.{RefT}
+use lib.Dec.{ltb}
+use lib.ListN.{length, take, drop, length-take, length-drop}
+use Rattle.lists.proofs.TestLaws.{both}
+use Rattle.numbers.specs.declared.Refusal.{Refusal}
+use Rattle.layout.specs.Limits.{blockBytes, contentBytes, variablePlace}
+use Rattle.layout.specs.Parts.{variableCount, nameSize}
+use Rattle.refusals.specs.declared.Reading.{Reading}
+use Rattle.refusals.specs.declared.Reading.the-variants.{Accepted, Refused}
+use Rattle.refusals.specs.Said.{saidOf}
+use Rattle.blocks.specs.Block.{blockGiven, BlockPart}
+use Rattle.blocks.proofs.BlockLaws.{right-given}
+use Rattle.reading.specs.Cascade.{refusalOf}
+use Rattle.reading.specs.Name.{isNone, nameGiven, NamePart}
+use Rattle.reading.proofs.RuleLaws.{accepted-counted, accepted-kept}
+use Rattle.reading.proofs.Bounds.{refusal-small}
+use Rattle.capi.specs.Codes.{refusalCode, readCode, nameCode, blockCode}
+
+-- ---- read
+module _ (s : List ℕ) {a : Reading} (e : saidOf a ≡ refusalOf s) where
+  pub accepted-code : a ≡ Accepted → 0 ≡ readCode s
+  accepted-code d = ap refusalCode (sym (ap saidOf d)) ∙ ap refusalCode e
+
+  pub refused-code : {r : Refusal} → a ≡ Refused r → refusalCode (some r) ≡ readCode s
+  refused-code d = ap refusalCode (sym (ap saidOf d)) ∙ ap refusalCode e
+
+  pub place-small : {r : Refusal} → a ≡ Refused r → r .place < 248
+  place-small d = refusal-small s (sym e ∙ ap saidOf d) .low-place
+
+-- number and place are told from the code, and so is that the sheet is accepted
+module _ (s : List ℕ) where
+  pub code-tells : {r : Refusal} → refusalOf s ≡ some r → (readCode s / 2 ^ 48 ≡ r .number) × (readCode s % 2 ^ 48 ≡ r .place) × (0 < readCode s)
+  code-tells {r} e =
+      let b = refusal-small s e in
+      let l = b .low-place in
+      let m = b .some-number in
+      let c : readCode s ≡ r .number * 2 ^ 48 + r .place = ap refusalCode e in
+      (omega arith, omega arith, omega arith)
+
+  pub code-accepts : refusalOf s ≡ none → readCode s ≡ 0
+  code-accepts e = ap refusalCode e
+
+  -- ---- name
+  given-parts : (i : ℕ) → nameGiven s i ≡ true → (refusalOf s ≡ none) × (i < variableCount s)
+  unfolding nameGiven
+  given-parts i g =
+      let w = both (isNone (refusalOf s)) (ltb i (variableCount s)) g in
+      (go (refusalOf s) refl (w .0), ltb-true i (variableCount s) (w .1))
+    where
+      go : (o : Option Refusal) → refusalOf s ≡ o → isNone o ≡ true → refusalOf s ≡ none
+      go none q d = q
+      go (some r) q d = absurd (false≢true d)
+
+  -- a name that is given has 1 to 16 bytes inside the sheet
+  pub given-size : (i : ℕ) → nameGiven s i ≡ true → (1 ≤ nameSize s (variablePlace i)) × (nameSize s (variablePlace i) ≤ 16) × (variablePlace i + 6 + nameSize s (variablePlace i) ≤ length s) × (i < 16)
+  given-size i g =
+      let p = given-parts i g in
+      let k = accepted-kept s (p .0) i (p .1) .0 in
+      let c = accepted-counted s (p .0) in
+      let z = c .size in
+      let f = c .few in
+      let l = k .long in
+      let h = k .short in
+      let o = p .1 in
+      (l, h, omega arith, omega arith)
+
+  part-size : (b : Bool) (a n : ℕ) → (b ≡ true → a + n ≤ length s) → length (take (cond b n 0) (drop (cond b a 0) s)) ≡ cond b n 0
+  part-size true a n h = rw (length-take, length-drop) (let l = h refl in omega arith)
+  part-size false a n h = refl
+
+  name-length : (i : ℕ) → length (take (cond (nameGiven s i) (nameSize s (variablePlace i)) 0) (drop (cond (nameGiven s i) (variablePlace i + 6) 0) s)) ≡ cond (nameGiven s i) (nameSize s (variablePlace i)) 0
+  name-length i = part-size (nameGiven s i) (variablePlace i + 6) (nameSize s (variablePlace i)) (λ g. given-size i g .2)
+
+  module _ (i : ℕ) {size : ℕ} (e : size ≡ cond (nameGiven s i) (nameSize s (variablePlace i)) 0) where
+    pub no-name : size ≡ 0 → 0 ≡ nameCode s i
+    no-name z = go (nameGiven s i) refl e
+      where
+        go : (b : Bool) → nameGiven s i ≡ b → size ≡ cond b (nameSize s (variablePlace i)) 0 → 0 ≡ cond b ((variablePlace i + 6) * 65536 + nameSize s (variablePlace i)) 0
+        go true q d = absurd (let l = given-size i q .0 in omega arith)
+        go false q d = refl
+
+    pub some-name : (size ≡ 0 → ⊥) → (14 + 24 * i) * 65536 + size ≡ nameCode s i
+    some-name z = go (nameGiven s i) refl e
+      where
+        go : (b : Bool) → nameGiven s i ≡ b → size ≡ cond b (nameSize s (variablePlace i)) 0 → (14 + 24 * i) * 65536 + size ≡ cond b ((variablePlace i + 6) * 65536 + nameSize s (variablePlace i)) 0
+        go true q d = omega arith
+        go false q d = absurd (z d)
+
+    pub size-small : size ≤ 16
+    size-small = go (nameGiven s i) refl e
+      where
+        go : (b : Bool) → nameGiven s i ≡ b → size ≡ cond b (nameSize s (variablePlace i)) 0 → size ≤ 16
+        go true q d = let l = given-size i q .1 in omega arith
+        go false q d = omega arith
+
+-- the part that `name` hands back: as long as its size, and where the code says
+module _ {sheet part : RefT (List ℕ)} (i : ℕ) (p : NamePart sheet i part) where
+  pub name-part-size : length (part .now) ≡ cond (nameGiven (sheet .now) i) (nameSize (sheet .now) (variablePlace i)) 0
+  name-part-size = ap length (p .bytes) ∙ name-length (sheet .now) i
+
+  pub name-tells : (length (part .now) ≡ nameCode (sheet .now) i % 65536) × (part .ptr .1 ≡ sheet .ptr .1 + nameCode (sheet .now) i / 65536)
+  name-tells = go (nameGiven (sheet .now) i) refl name-part-size (p .place)
+    where
+      go : (b : Bool) → nameGiven (sheet .now) i ≡ b → length (part .now) ≡ cond b (nameSize (sheet .now) (variablePlace i)) 0 → part .ptr .1 ≡ sheet .ptr .1 + cond b (variablePlace i + 6) 0
+          → (length (part .now) ≡ cond b ((variablePlace i + 6) * 65536 + nameSize (sheet .now) (variablePlace i)) 0 % 65536) × (part .ptr .1 ≡ sheet .ptr .1 + cond b ((variablePlace i + 6) * 65536 + nameSize (sheet .now) (variablePlace i)) 0 / 65536)
+      go true q a d = let l = given-size (sheet .now) i q .1 in (omega arith, omega arith)
+      go false q a d = (a, d)
+
+-- ---- block
+module _ {sheet part : RefT (List ℕ)} (k : ℕ) (p : BlockPart sheet k part) where
+  pub block-tells : length (part .now) ≡ blockCode (sheet .now) k
+  block-tells = ap length (p .bytes) ∙ part-size (sheet .now) (blockGiven (sheet .now) k) (blockBytes * k) contentBytes (λ g. let w = right-given (sheet .now) k g .0 in omega arith)

@@ -1,0 +1,39 @@
+// The C interface: the calls on numbers and slices, each answer one number. See include/ragwashin.h.
+ghost use mathlib.Core.Path.{_≡_};
+ghost use Rattle.capi.specs.Codes.{readCode, nameCode, blockCode};
+use numbers::VariableNumber;
+use refusals::Reading;
+
+const NUMBER: u64 = 281474976710656;
+
+const OFFSET: u64 = 65536;
+
+#[no_mangle]
+pub extern "C" fn ragwashin_read(sheet: &[u8]) -> u64
+    ensures { λ r. ⌜ r ≡ readCode (now (sheet .entry)) ⌝ }
+{
+    let reading = reading::read(sheet);
+    match reading {
+        Reading::Accepted => 0,
+        Reading::Refused(refusal) => refusal.number as u64 * NUMBER + refusal.place as u64,
+    }
+}
+
+#[no_mangle]
+pub extern "C" fn ragwashin_name(sheet: &[u8], variable: u16) -> u64
+    ensures { λ r. ⌜ r ≡ nameCode (now (sheet .entry)) variable ⌝ }
+{
+    let part = reading::name(sheet, VariableNumber(variable));
+    let size = part.len() as u64;
+    if size == 0 {
+        return 0;
+    }
+    (14 + 24 * (variable as u64)) * OFFSET + size
+}
+
+#[no_mangle]
+pub extern "C" fn ragwashin_block(sheet: &[u8], k: u64) -> u64
+    ensures { λ r. ⌜ r ≡ blockCode (now (sheet .entry)) k ⌝ }
+{
+    blocks::block(sheet, k as usize).len() as u64
+}

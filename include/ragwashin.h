@@ -1,0 +1,25 @@
+/* Ragwashin's C interface. Every function takes any bytes and any numbers, ends, and reads nothing but the bytes lent. */
+#ifndef RAGWASHIN_H
+#define RAGWASHIN_H
+
+#include <stddef.h>
+#include <stdint.h>
+
+#ifdef __cplusplus
+extern "C" {
+#endif
+
+/* Reads a sheet. High 16 bits: the refusal's number, 0 where the sheet is accepted; low 48 bits: the refusal's place, else 0. */
+uint64_t ragwashin_read(const uint8_t *sheet, size_t sheet_len);
+
+/* A variable's name: its offset in the sheet times 65,536 plus its length; 0 where the sheet is refused or there is no such variable. */
+uint64_t ragwashin_name(const uint8_t *sheet, size_t sheet_len, uint16_t variable);
+
+/* A block's content: 510, and the bytes stand at 512 times k; 0 where the block isn't wholly inside or its check is wrong. */
+uint64_t ragwashin_block(const uint8_t *sheet, size_t sheet_len, uint64_t k);
+
+#ifdef __cplusplus
+}
+#endif
+
+#endif
