@@ -18,6 +18,15 @@ uint64_t ragwashin_name(const uint8_t *sheet, size_t sheet_len, uint16_t variabl
 /* A block's content: 510, and the bytes stand at 512 times k; 0 where the block isn't wholly inside or its check is wrong. */
 uint64_t ragwashin_block(const uint8_t *sheet, size_t sheet_len, uint64_t k);
 
+/* Tries all cases. High 16 bits: the refusal's number, 0 where all were tried; low 48 bits: the refusal's place, else 0 where the rule holds
+   and 1 where it fails. Where it fails, the first failing case stands at the front of the room, a number for each variable; nothing else of
+   the room is ever changed. room_len counts numbers. */
+uint64_t ragwashin_check(const uint8_t *sheet, size_t sheet_len, int16_t *room, size_t room_len);
+
+/* Counts the cases. High 16 bits: the refusal's number, 0 where all were counted; low 48 bits: the refusal's place, else the number of cases
+   that held times 2^24 plus the number that failed. */
+uint64_t ragwashin_tally(const uint8_t *sheet, size_t sheet_len);
+
 #ifdef __cplusplus
 }
 #endif

@@ -2,23 +2,28 @@
 // Written from document 01 alone; it shares no code with the library or with the tests' sheets.
 //
 // A trial is: sheet length (u32), number of questions (u32), the sheet, then for each question its
-// subject (one byte: 1 read, 2 name, 3 block) and a number (u64). An answer is a u64. All little-endian.
+// subject (one byte: 1 read, 2 name, 3 block, 4 check, 5 tally) and a number (u64). An answer is a u64 and,
+// where the question lends a room, the whole room afterwards. All little-endian. For a room, the number's
+// low 32 bits are its length and the high 32 a pattern: byte i of the room is first the highest byte of
+// pattern * (2 i + 1), taken modulo 2^32.
 
+mod answers;
 mod blocks;
+mod cases;
 mod reading;
 mod trees;
 mod variables;
 
-use reading::{Refusal, Rule};
+use answers::Asked;
 use std::io::{self, BufReader, BufWriter, Read, Write};
 
 fn main() -> io::Result<()> {
     let mut input = BufReader::with_capacity(1 << 20, io::stdin());
     let mut output = BufWriter::with_capacity(1 << 20, io::stdout());
     while let Some((sheet, questions)) = next_trial(&mut input)? {
-        let reading = reading::read(&sheet);
+        let mut asked = Asked::about(sheet);
         for (subject, number) in questions {
-            output.write_all(&answer(&sheet, &reading, subject, number).to_le_bytes())?;
+            output.write_all(&asked.answer(subject, number))?;
         }
     }
     output.flush()
@@ -46,18 +51,4 @@ fn next_question(input: &mut impl Read) -> io::Result<(u8, u64)> {
     input.read_exact(&mut subject)?;
     input.read_exact(&mut number)?;
     Ok((subject[0], u64::from_le_bytes(number)))
-}
-
-/// The C interface's number for the answer to one question.
-fn answer(sheet: &[u8], reading: &Result<Rule, Refusal>, subject: u8, number: u64) -> u64 {
-    match subject {
-        1 => reading.as_ref().err().map_or(0, |refusal| refusal.number << 48 | refusal.place),
-        2 => reading
-            .as_ref()
-            .ok()
-            .and_then(|rule| rule.variables.get(number as usize))
-            .map_or(0, |variable| variable.name_offset as u64 * 65_536 + variable.name.len() as u64),
-        3 => blocks::content(sheet, number).map_or(0, |content| content.len() as u64),
-        _ => panic!("no question has subject {}", subject),
-    }
 }

@@ -4,6 +4,7 @@ use crate::blocks;
 use crate::trees::{self, Tree};
 use crate::variables::{self, Variable};
 
+#[derive(Clone, Copy)]
 pub struct Refusal {
     pub number: u64,
     pub place: u64,
@@ -12,7 +13,6 @@ pub struct Refusal {
 /// What an accepted sheet says.
 pub struct Rule {
     pub variables: Vec<Variable>,
-    #[allow(dead_code)] // for questions about cases and scripts
     pub goal: Tree,
 }
 

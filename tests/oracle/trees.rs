@@ -24,9 +24,9 @@ pub enum Finding {
 
 pub struct Tree {
     pub node: usize,
-    #[allow(dead_code)] // for questions about cases and scripts, as the operands
     pub kind: u8,
-    #[allow(dead_code)]
+    /// A constant's value or a variable's number.
+    pub leaf: i64,
     pub operands: Vec<Tree>,
     pub finding: Finding,
 }
@@ -78,16 +78,17 @@ fn tree(node: usize, record: &[u8], row: &mut Vec<Tree>, variables: &[Variable])
     if operands.iter().zip(sorts).any(|(operand, &sort)| operand.sort() != sort) {
         return Err(7);
     }
+    let value = i64::from(i16::from_le_bytes([record[8], record[9]]));
+    let leaf = if kind == 17 { variable as i64 } else { value };
     let finding = if kind <= 10 {
         Finding::Truth
     } else {
-        let value = i16::from_le_bytes([record[8], record[9]]);
-        let own = if kind == 17 { domain(&variables[variable]) } else { only(value.into()) };
+        let own = if kind == 17 { domain(&variables[variable]) } else { only(value) };
         let ranges: Vec<Range> =
             operands.iter().filter(|x| x.sort() == Sort::Integer).map(Tree::range).collect();
         Finding::Integer(fitting(range(kind, own, &ranges)).ok_or(8u64)?)
     };
-    Ok(Tree { node, kind, operands, finding })
+    Ok(Tree { node, kind, leaf, operands, finding })
 }
 
 /// What each operand must be, in the order a, b, c; none for a byte that is no kind.

@@ -2,6 +2,7 @@
 
 use crate::grower::{any_size, Grower};
 use crate::layout::*;
+use crate::question::Question;
 use crate::random::Random;
 use crate::trees::*;
 use crate::trial::*;

@@ -1,19 +1,20 @@
 // Document 01's cases at each edge that concern reading (4, 7 to 11, 14, 15), its sheet A and its worked
 // check. Bytes, checks and answers are all written out by hand.
 
+use crate::question::Question;
 use crate::random::Random;
-use crate::trial::{Output, Question};
+use crate::trial::Output;
 use Question::{Block, Name, Read};
 
 const ACCEPTED: u64 = 0;
 
 /// The answer of `read` that is refusal `number` at `place`.
-const fn refused(number: u64, place: u64) -> u64 {
+pub const fn refused(number: u64, place: u64) -> u64 {
     number * 281_474_976_710_656 + place
 }
 
 /// A sheet of this length with these bytes at these places, and zero elsewhere.
-fn sheet(length: usize, parts: &[(usize, &[u8])]) -> Vec<u8> {
+pub fn sheet(length: usize, parts: &[(usize, &[u8])]) -> Vec<u8> {
     let mut sheet = vec![0; length];
     for (place, bytes) in parts {
         sheet[*place..place + bytes.len()].copy_from_slice(bytes);

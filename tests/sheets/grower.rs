@@ -41,6 +41,16 @@ impl<'r> Grower<'r> {
         grower
     }
 
+    /// With variables of these domains.
+    pub fn with_domains(random: &'r mut Random, domains: &[Range]) -> Grower<'r> {
+        let small = domains.iter().all(|domain| domain.0 > -100 && domain.1 < 100);
+        let mut grower = Grower { random, variables: Vec::new(), small };
+        domains.iter().for_each(|&domain| {
+            grower.add_variable(domain);
+        });
+        grower
+    }
+
     /// With any number of variables.
     pub fn any(random: &'r mut Random) -> Grower<'r> {
         let variables = random.below(MOST_VARIABLES + 1);

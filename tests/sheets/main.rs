@@ -1,21 +1,30 @@
 // The tests' sheets: makes the trials of each group, judges the answers to them, and sees that every
 // class of sheet and every kind of answer was met. It shares no code with the oracle.
 //
-//   sheets groups                                 the groups, one to a line
+//   sheets groups PART                            the groups of a part of the interface, one to a line
 //   sheets make GROUP SEED TRIALS NOTES           writes the group's trials and what is known of them
 //   sheets judge TRIALS NOTES WANTED GOT [MET]    compares; what was met is added to MET
-//   sheets alter GOT ALTERED SEED                 changes one bit of one answer, and says which answer
-//   sheets met MET                                fails if something required was never met
+//   sheets alter WHAT TRIALS GOT ALTERED SEED     changes one bit of an answer or a room, and says which
+//   sheets met MET PART..                         fails if something that these parts require was never met
 
 mod accepted;
+mod alter;
 mod asked;
 mod at_once;
 mod bulk;
+mod case_edges;
+mod case_limits;
+mod case_questions;
+mod case_required;
 mod edges;
+mod failing;
+mod few_cases;
 mod grower;
 mod judge;
 mod layout;
+mod met;
 mod nodes;
+mod question;
 mod random;
 mod ranges;
 mod required;
@@ -24,46 +33,70 @@ mod trial;
 mod variables;
 mod whole_sheet;
 
+use alter::What;
 use random::Random;
 use std::collections::BTreeSet;
 use std::fs::{self, File, OpenOptions};
 use std::io::{self, Write};
 use std::process::exit;
-use trial::Output;
+use trial::{Output, Part, PARTS};
 
 type Make = fn(&mut Random, &mut Output);
 
-const GROUPS: [(&str, Make); 16] = [
-    ("edge-cases", edges::make),
-    ("accepted", accepted::make),
-    ("refusal-1", whole_sheet::refusal_1),
-    ("refusal-2", whole_sheet::refusal_2),
-    ("refusal-3", whole_sheet::refusal_3),
-    ("refusal-4", whole_sheet::refusal_4),
-    ("refusal-5", variables::make),
-    ("refusal-6", nodes::refusal_6),
-    ("refusal-7", nodes::refusal_7),
-    ("refusal-8", ranges::make),
-    ("faults-at-once", at_once::make),
-    ("every-length", bulk::lengths),
-    ("one-byte-changed", bulk::changed_bytes),
-    ("at-random", bulk::at_random),
-    ("every-name", asked::names),
-    ("every-block", asked::blocks),
+/// The groups of each part; the first one of a part is small.
+const GROUPS: [(Part, &str, Make); 21] = [
+    (Part::Reading, "edge-cases", edges::make),
+    (Part::Reading, "accepted", accepted::make),
+    (Part::Reading, "refusal-1", whole_sheet::refusal_1),
+    (Part::Reading, "refusal-2", whole_sheet::refusal_2),
+    (Part::Reading, "refusal-3", whole_sheet::refusal_3),
+    (Part::Reading, "refusal-4", whole_sheet::refusal_4),
+    (Part::Reading, "refusal-5", variables::make),
+    (Part::Reading, "refusal-6", nodes::refusal_6),
+    (Part::Reading, "refusal-7", nodes::refusal_7),
+    (Part::Reading, "refusal-8", ranges::make),
+    (Part::Reading, "faults-at-once", at_once::make),
+    (Part::Reading, "every-length", bulk::lengths),
+    (Part::Reading, "one-byte-changed", bulk::changed_bytes),
+    (Part::Reading, "at-random", bulk::at_random),
+    (Part::Reading, "every-name", asked::names),
+    (Part::Reading, "every-block", asked::blocks),
+    (Part::Cases, "cases-edge-cases", case_edges::make),
+    (Part::Cases, "cases-few", few_cases::make),
+    (Part::Cases, "cases-failing", failing::make),
+    (Part::Cases, "cases-limits", case_limits::make),
+    (Part::Cases, "cases-refused-sheets", refused_sheets),
 ];
+
+/// Sheets refused with 1 to 8, put to the calls of another part.
+fn refused_sheets(random: &mut Random, out: &mut Output) {
+    let makes: [Make; 9] = [
+        whole_sheet::refusal_1,
+        whole_sheet::refusal_2,
+        whole_sheet::refusal_3,
+        whole_sheet::refusal_4,
+        variables::make,
+        nodes::refusal_6,
+        nodes::refusal_7,
+        ranges::make,
+        at_once::make,
+    ];
+    makes.iter().for_each(|make| make(random, out));
+}
 
 fn main() -> io::Result<()> {
     let words: Vec<String> = std::env::args().skip(1).collect();
     let words: Vec<&str> = words.iter().map(String::as_str).collect();
     match words[..] {
-        ["groups"] => GROUPS.iter().for_each(|(name, _)| println!("{}", name)),
+        ["groups", part] => groups(named_part(part)),
         ["make", group, seed, trials, notes] => {
             make(group, number(seed), File::create(trials)?, File::create(notes)?)
         }
         ["judge", trials, notes, wanted, got] => judge([trials, notes, wanted, got], None)?,
         ["judge", trials, notes, wanted, got, met] => judge([trials, notes, wanted, got], Some(met))?,
-        ["alter", got, altered, seed] => alter(got, altered, number(seed))?,
-        ["met", met] => all_met(&fs::read_to_string(met)?),
+        ["alter", "answer", trials, got, altered, seed] => alter(What::Answer, [trials, got, altered], seed)?,
+        ["alter", "room", trials, got, altered, seed] => alter(What::Room, [trials, got, altered], seed)?,
+        ["met", met, ref parts @ ..] => all_met(&fs::read_to_string(met)?, parts),
         _ => fail("usage: sheets groups | make | judge | alter | met; see the top of main.rs"),
     }
     Ok(())
@@ -78,10 +111,19 @@ fn number(word: &str) -> u64 {
     word.parse().unwrap_or_else(|_| fail(&format!("'{}' is no seed", word)))
 }
 
+fn named_part(word: &str) -> Part {
+    let found = PARTS.iter().find(|(name, _)| *name == word);
+    found.unwrap_or_else(|| fail(&format!("there is no part '{}'", word))).1
+}
+
+fn groups(part: Part) {
+    GROUPS.iter().filter(|group| group.0 == part).for_each(|group| println!("{}", group.1));
+}
+
 fn make(group: &str, seed: u64, trials: File, notes: File) {
-    let found = GROUPS.iter().find(|(name, _)| *name == group);
-    let (_, make) = found.unwrap_or_else(|| fail(&format!("there is no group '{}'", group)));
-    let mut out = Output::new(trials, notes);
+    let found = GROUPS.iter().find(|(_, name, _)| *name == group);
+    let (part, _, make) = found.unwrap_or_else(|| fail(&format!("there is no group '{}'", group)));
+    let mut out = Output::new(*part, trials, notes);
     make(&mut Random::new(seed, group), &mut out);
     out.finish();
 }
@@ -106,17 +148,17 @@ fn judge([trials, notes, wanted, got]: [&str; 4], met: Option<&str>) -> io::Resu
     Ok(())
 }
 
-fn alter(got: &str, altered: &str, seed: u64) -> io::Result<()> {
+fn alter(what: What, [trials, got, altered]: [&str; 3], seed: &str) -> io::Result<()> {
     let mut answers = fs::read(got)?;
-    let bit = Random::new(seed, "alter").below(8 * answers.len());
-    answers[bit / 8] ^= 1 << (bit % 8);
-    println!("answer {}", bit / 64);
+    let mut random = Random::new(number(seed), "alter");
+    println!("answer {}", alter::alter(&fs::read(trials)?, &mut answers, what, &mut random));
     fs::write(altered, answers)
 }
 
 /// What was met must be exactly what is required: a label that the list does not know is a fault too.
-fn all_met(met: &str) {
-    let required = required::all();
+fn all_met(met: &str, parts: &[&str]) {
+    let parts: Vec<Part> = parts.iter().map(|part| named_part(part)).collect();
+    let required = required::of(&parts);
     let met: BTreeSet<String> =
         met.lines().filter_map(|line| line.split('\t').next()).map(str::to_string).collect();
     tell_first("never met", required.difference(&met));

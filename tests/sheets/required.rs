@@ -1,29 +1,42 @@
 // What a run must have met: every class of sheet, by its label, and every kind of answer. A list of its
 // own, apart from the code that makes the sheets: a class that is left out there is missed here.
 
+use crate::case_required;
+use crate::trial::Part;
 use std::collections::BTreeSet;
 
-const KINDS: [u8; 17] = [1, 2, 3, 4, 5, 6, 7, 8, 9, 10, 16, 17, 18, 19, 20, 21, 22];
+pub const KINDS: [u8; 17] = [1, 2, 3, 4, 5, 6, 7, 8, 9, 10, 16, 17, 18, 19, 20, 21, 22];
 
-pub fn all() -> BTreeSet<String> {
+/// All that a run over these parts must have met.
+pub fn of(parts: &[Part]) -> BTreeSet<String> {
     let mut all = Vec::new();
-    accepted(&mut all);
-    whole_sheet(&mut all);
-    variables(&mut all);
-    nodes(&mut all);
-    types(&mut all);
-    ranges(&mut all);
-    at_once(&mut all);
-    bulk(&mut all);
-    edges(&mut all);
-    readings(&mut all);
-    names_and_blocks(&mut all);
+    for part in parts {
+        match part {
+            Part::Reading => of_reading(&mut all),
+            Part::Cases => case_required::of_cases(&mut all),
+        }
+    }
     all.into_iter().collect()
 }
 
-type All = Vec<String>;
+fn of_reading(all: &mut All) {
+    accepted(all);
+    whole_sheet(all);
+    variables(all);
+    nodes(all);
+    types(all);
+    ranges(all);
+    at_once(all);
+    bulk(all);
+    edges(all);
+    all.extend((2..=9).map(|blocks| format!("read: accepted, {} blocks", blocks)));
+    refusals(all, "read");
+    names_and_blocks(all);
+}
 
-fn add(all: &mut All, prefix: &str, words: &str) {
+pub type All = Vec<String>;
+
+pub fn add(all: &mut All, prefix: &str, words: &str) {
     all.extend(words.split('|').map(|word| format!("{}{}", prefix, word)));
 }
 
@@ -205,22 +218,22 @@ fn edges(all: &mut All) {
     add(all, "", "2: edge 14|3: edge 14, check right|4: edge 15");
 }
 
-fn readings(all: &mut All) {
-    all.extend((2..=9).map(|blocks| format!("read: accepted, {} blocks", blocks)));
-    add(all, "read: 1 at 0, ", "no bytes|no multiple of 512|over 4,608");
-    all.extend((0..9).map(|k| format!("read: 2 at block {}", k)));
-    add(all, "read: ", "3 at 0|4 at 0");
-    all.extend((0..16).map(|variable| format!("read: 5 at variable {}", variable)));
+/// Refusals 1 to 8 at each kind of place, as a call has them.
+pub fn refusals(all: &mut All, call: &str) {
+    add(all, &format!("{}: 1 at 0, ", call), "no bytes|no multiple of 512|over 4,608");
+    all.extend((0..9).map(|k| format!("{}: 2 at block {}", call, k)));
+    add(all, &format!("{}: ", call), "3 at 0|4 at 0");
+    all.extend((0..16).map(|variable| format!("{}: 5 at variable {}", call, variable)));
     // No range leaves, and no operand is wrong, at a node that has nothing before it.
-    add(all, "read: 6 at ", "the only node|node 0 of more|a node between|N - 1|no kind");
-    add(all, "read: 7 at ", "the only node|a node between|N - 1");
-    add(all, "read: 8 at ", "a node between|N - 1");
+    add(all, &format!("{}: 6 at ", call), "the only node|node 0 of more|a node between|N - 1|no kind");
+    add(all, &format!("{}: 7 at ", call), "the only node|a node between|N - 1");
+    add(all, &format!("{}: 8 at ", call), "a node between|N - 1");
     for number in [6, 7, 8] {
-        all.extend((1..=8).map(|k| format!("read: {} in block {}", number, k)));
+        all.extend((1..=8).map(|k| format!("{}: {} in block {}", call, number, k)));
     }
-    all.extend(KINDS.iter().map(|kind| format!("read: 6 at kind {}", kind)));
-    all.extend(KINDS[2..].iter().map(|kind| format!("read: 7 at kind {}", kind)));
-    all.extend((18..=21).map(|kind| format!("read: 8 at kind {}", kind)));
+    all.extend(KINDS.iter().map(|kind| format!("{}: 6 at kind {}", call, kind)));
+    all.extend(KINDS[2..].iter().map(|kind| format!("{}: 7 at kind {}", call, kind)));
+    all.extend((18..=21).map(|kind| format!("{}: 8 at kind {}", call, kind)));
 }
 
 fn names_and_blocks(all: &mut All) {

@@ -1,6 +1,8 @@
 // A trial: a sheet, the questions about it, and what is known beforehand of the answers.
 
+use crate::case_questions;
 use crate::layout::BLOCK;
+use crate::question::{Known, Question};
 use crate::random::Random;
 use std::fs::File;
 use std::io::{BufWriter, Write};
@@ -15,13 +17,6 @@ pub enum Expected {
 
 pub use Expected::{Accepted, Open, Refused};
 
-#[derive(Clone, Copy)]
-pub enum Question {
-    Read,
-    Name(u16),
-    Block(u64),
-}
-
 /// The answer of `read`: the refusal's number in the high 16 bits, its place in the low 48.
 pub fn reading(expected: Expected) -> Option<u64> {
     match expected {
@@ -31,24 +26,14 @@ pub fn reading(expected: Expected) -> Option<u64> {
     }
 }
 
-impl Question {
-    pub fn subject_and_number(self) -> (u8, u64) {
-        match self {
-            Question::Read => (1, 0),
-            Question::Name(variable) => (2, variable.into()),
-            Question::Block(k) => (3, k),
-        }
-    }
-
-    pub fn from(subject: u8, number: u64) -> Question {
-        match subject {
-            1 => Question::Read,
-            2 => Question::Name(number as u16),
-            3 => Question::Block(number),
-            _ => panic!("no question has subject {}", subject),
-        }
-    }
+/// A part of the interface, which a driver of its own calls.
+#[derive(Clone, Copy, PartialEq)]
+pub enum Part {
+    Reading,
+    Cases,
 }
+
+pub const PARTS: [(&str, Part); 2] = [("reading", Part::Reading), ("cases", Part::Cases)];
 
 /// Block numbers whose place in bytes, or whose k + 1, leaves one width of number or another.
 pub const FAR_BLOCKS: [u64; 18] = [
@@ -75,50 +60,46 @@ pub const FAR_BLOCKS: [u64; 18] = [
 /// Variable numbers at the edge of one width of number or another.
 pub const FAR_VARIABLES: [u16; 9] = [15, 16, 17, 255, 256, 257, 32_767, 32_768, 65_535];
 
+/// A question and, where it is known, its answer.
+pub type Asked = (Question, Option<Known>);
+
 /// Where trials go: the sheets and questions to one file, what is known of them to another.
 pub struct Output {
+    part: Part,
     trials: BufWriter<File>,
     notes: BufWriter<File>,
 }
 
 impl Output {
-    pub fn new(trials: File, notes: File) -> Output {
-        Output { trials: BufWriter::with_capacity(1 << 20, trials), notes: BufWriter::new(notes) }
+    pub fn new(part: Part, trials: File, notes: File) -> Output {
+        Output { part, trials: BufWriter::with_capacity(1 << 20, trials), notes: BufWriter::new(notes) }
     }
 
     /// Puts a sheet with a few questions at random.
     pub fn put(&mut self, random: &mut Random, label: &str, sheet: &[u8], expected: Expected) {
-        let variables = sheet.get(4).copied().unwrap_or(0).min(17);
-        let near = random.below(usize::from(variables) + 1) as u16;
-        let far = random.pick(&FAR_VARIABLES);
-        let block = random.below(sheet.len() / BLOCK + 2) as u64;
-        let distant = random.pick(&FAR_BLOCKS);
-        let name = match expected {
-            Refused(..) => Some(0),
-            _ => None,
+        let questions = match self.part {
+            Part::Reading => reading_questions(random, sheet, expected),
+            Part::Cases => case_questions::any(random, sheet, expected),
         };
-        self.ask(
-            label,
-            sheet,
-            &[
-                (Question::Read, reading(expected)),
-                (Question::Name(near), name),
-                (Question::Name(far), name),
-                (Question::Block(block), None),
-                (Question::Block(distant), None),
-            ],
-        );
+        self.ask_all(label, sheet, &questions);
+    }
+
+    /// Puts a sheet with these questions, which lend no room, and, where they are known, their answers.
+    pub fn ask(&mut self, label: &str, sheet: &[u8], questions: &[(Question, Option<u64>)]) {
+        let questions: Vec<Asked> =
+            questions.iter().map(|&(question, said)| (question, said.map(Known::said))).collect();
+        self.ask_all(label, sheet, &questions);
     }
 
     /// Puts a sheet with these questions and, where they are known, their answers.
-    pub fn ask(&mut self, label: &str, sheet: &[u8], questions: &[(Question, Option<u64>)]) {
+    pub fn ask_all(&mut self, label: &str, sheet: &[u8], questions: &[Asked]) {
         self.write_trial(sheet, questions).expect("the trials can be written");
-        let known: Vec<String> =
-            questions.iter().map(|(_, answer)| answer.map_or("-".to_string(), |a| a.to_string())).collect();
+        let word = |known: &Option<Known>| known.as_ref().map_or("-".to_string(), Known::word);
+        let known: Vec<String> = questions.iter().map(|(_, known)| word(known)).collect();
         writeln!(self.notes, "{}\t{}", label, known.join(" ")).expect("the notes can be written");
     }
 
-    fn write_trial(&mut self, sheet: &[u8], questions: &[(Question, Option<u64>)]) -> std::io::Result<()> {
+    fn write_trial(&mut self, sheet: &[u8], questions: &[Asked]) -> std::io::Result<()> {
         self.trials.write_all(&(sheet.len() as u32).to_le_bytes())?;
         self.trials.write_all(&(questions.len() as u32).to_le_bytes())?;
         self.trials.write_all(sheet)?;
@@ -134,4 +115,23 @@ impl Output {
         self.trials.flush().expect("the trials can be written");
         self.notes.flush().expect("the notes can be written");
     }
+}
+
+fn reading_questions(random: &mut Random, sheet: &[u8], expected: Expected) -> Vec<Asked> {
+    let variables = sheet.get(4).copied().unwrap_or(0).min(17);
+    let near = random.below(usize::from(variables) + 1) as u16;
+    let far = random.pick(&FAR_VARIABLES);
+    let block = random.below(sheet.len() / BLOCK + 2) as u64;
+    let distant = random.pick(&FAR_BLOCKS);
+    let name = match expected {
+        Refused(..) => Some(Known::said(0)),
+        _ => None,
+    };
+    vec![
+        (Question::Read, reading(expected).map(Known::said)),
+        (Question::Name(near), name.clone()),
+        (Question::Name(far), name),
+        (Question::Block(block), None),
+        (Question::Block(distant), None),
+    ]
 }

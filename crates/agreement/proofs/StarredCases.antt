@@ -6,9 +6,12 @@ use Rattle.lists.specs.Course.{below, course}
 use Rattle.lists.specs.First.{first}
 use Rattle.numbers.specs.Two.{dec}
 use Rattle.numbers.specs.Ranges.{isNarrow, hasNarrowEnds, leastOf, greatestOf}
+use Rattle.meaning.specs.Value.{value}
+use Rattle.meaning.specs.Cases.{sizeOf, casesOf, holds, failures, firstFailure, held, failed}
 use Rattle.kinds.specs.Kinds.{find, kindOf}
 use Rattle.layout.specs.Checks.{weighted, checkOf, blockRight}
 use Rattle.layout.specs.Starts.{startAt}
+use Rattle.layout.specs.Goal.{treeAt}
 use Rattle.layout.specs.Fold.{ofNode}
 use Rattle.blocks.specs.Early.{lengthRight, early}
 use Rattle.header.specs.Header.{zeros, countsRight, tailClear, outsideClear, header}
@@ -20,5 +23,5 @@ use Rattle.reading.specs.Cascade.{refusalOf}
 use Rattle.agreement.specs.Starred.{table, run, told}
 
 pub starred : map run table ≡ map told table
-unfolding allBelow below course first dec isNarrow hasNarrowEnds leastOf greatestOf find kindOf weighted checkOf blockRight startAt ofNode lengthRight early zeros countsRight tailClear outsideClear header isLetter isNameByte allNameBytes nameRight sameBytes variableRight fresh findingOf placed typed nodeRefusal nodes refusalOf
+unfolding value sizeOf casesOf holds failures firstFailure held failed treeAt allBelow below course first dec isNarrow hasNarrowEnds leastOf greatestOf find kindOf weighted checkOf blockRight startAt ofNode lengthRight early zeros countsRight tailClear outsideClear header isLetter isNameByte allNameBytes nameRight sameBytes variableRight fresh findingOf placed typed nodeRefusal nodes refusalOf
 starred = refl

@@ -1,12 +1,14 @@
--- The worked check and the starred cases of document 01, "Cases at each edge": one table. A row is a whole sheet's bytes, what `read` answers and, where a range is
--- named, what that node is found to be.
+-- The worked check and the starred cases of document 01, "Cases at each edge": one table. A row is a whole sheet's bytes, what `read` answers and,
+-- where they are named, what a node is found to be, what the check and the tally give.
 use Prim.Native.Nat.{ℕ, _-_}
 use mathlib.Core.List.{List, [], _∷_, _++_, map}
 use mathlib.Core.Option.{Option, none, some}
-use lib.IntN.{pos, negsuc}
+use lib.IntN.{ℤ, pos, negsuc}
 use lib.ListN.{length, replicate}
 use Rattle.numbers.specs.declared.Refusal.{Refusal}
 use Rattle.numbers.specs.Ranges.{_⋯_}
+use Rattle.meaning.specs.Cases.{firstFailure, held, failed}
+use Rattle.layout.specs.Parts.{ruleIn}
 use Rattle.findings.specs.declared.Finding.{Finding}
 use Rattle.findings.specs.declared.Finding.the-variants.{Integer}
 use Rattle.nodes.specs.Nodes.{findingAt}
@@ -16,10 +18,15 @@ use Rattle.reading.specs.Cascade.{refusalOf}
 abbrev pub block : List ℕ → ℕ → ℕ → List ℕ
 block used low high = used ++ (replicate (510 - length used) 0 ++ (low ∷ high ∷ []))
 
+-- the first failing case, and how many cases held and failed
+abbrev pub Trial : Type 0
+Trial = Option (List ℤ) × ℕ × ℕ
+
 pub record Row : Type 0 where
   pub sheet : List ℕ
   pub answer : Option Refusal
   pub ranges : List (ℕ × Finding)
+  pub trials : List Trial
 
 -- the worked check: byte 0 is 1, byte 509 is 255 and the rest zero, stored 13 FC; the check is right, so what is wrong is N
 abbrev pub worked : Row
@@ -27,6 +34,40 @@ worked = record {
   sheet = block (1 ∷ (replicate 508 0 ++ (255 ∷ []))) 0x13 0xfc;
   answer = some (record { number = 4; place = 0 });
   ranges = [];
+  trials = [];
+}
+
+-- 1: sheet A, 4 cases, first failure (0, 1), held 2, failed 2
+abbrev pub case1 : Row
+case1 = record {
+  sheet =
+      block (1 ∷ 0 ∷ 3 ∷ 0 ∷ 2 ∷ 0 ∷ 0 ∷ 0 ∷ 0 ∷ 0 ∷ 1 ∷ 0 ∷ 6 ∷ 0 ∷ 115 ∷ 101 ∷ 97 ∷ 116 ∷ 101 ∷ 100 ∷ 0 ∷ 0 ∷ 0 ∷ 0 ∷ 0 ∷ 0 ∷ 0 ∷ 0 ∷ 0 ∷ 0 ∷ 0 ∷ 0 ∷ 0 ∷ 0 ∷ 1 ∷ 0 ∷ 7 ∷ 0 ∷ 116 ∷ 114 ∷ 97 ∷ 105 ∷ 110 ∷ 101 ∷ 100 ∷ []) 50 166
+      ++ block (17 ∷ 0 ∷ 0 ∷ 0 ∷ 0 ∷ 0 ∷ 0 ∷ 0 ∷ 0 ∷ 0 ∷ 0 ∷ 0 ∷ 0 ∷ 0 ∷ 0 ∷ 0 ∷ 17 ∷ 0 ∷ 1 ∷ 0 ∷ 0 ∷ 0 ∷ 0 ∷ 0 ∷ 0 ∷ 0 ∷ 0 ∷ 0 ∷ 0 ∷ 0 ∷ 0 ∷ 0 ∷ 8 ∷ 0 ∷ 0 ∷ 0 ∷ 1 ∷ []) 116 2;
+  answer = none;
+  ranges = [];
+  trials = (some (pos 0 ∷ pos 1 ∷ []), 2, 2) ∷ [];
+}
+
+-- 2: no variables, goal true: holds, held 1
+abbrev pub case2 : Row
+case2 = record {
+  sheet =
+      block (1 ∷ 0 ∷ 1 ∷ []) 5 0
+      ++ block (1 ∷ []) 3 0;
+  answer = none;
+  ranges = [];
+  trials = (none, 1, 0) ∷ [];
+}
+
+-- 3: goal false: fails, failed 1
+abbrev pub case3 : Row
+case3 = record {
+  sheet =
+      block (1 ∷ 0 ∷ 1 ∷ []) 5 0
+      ++ block (2 ∷ []) 4 0;
+  answer = none;
+  ranges = [];
+  trials = (some [], 0, 1) ∷ [];
 }
 
 -- 7: 16,384 + 16,383 passes
@@ -37,6 +78,7 @@ case7 = record {
       ++ block (16 ∷ 0 ∷ 0 ∷ 0 ∷ 0 ∷ 0 ∷ 0 ∷ 0 ∷ 0 ∷ 64 ∷ 0 ∷ 0 ∷ 0 ∷ 0 ∷ 0 ∷ 0 ∷ 16 ∷ 0 ∷ 0 ∷ 0 ∷ 0 ∷ 0 ∷ 0 ∷ 0 ∷ 255 ∷ 63 ∷ 0 ∷ 0 ∷ 0 ∷ 0 ∷ 0 ∷ 0 ∷ 19 ∷ 0 ∷ 0 ∷ 0 ∷ 1 ∷ 0 ∷ 0 ∷ 0 ∷ 0 ∷ 0 ∷ 0 ∷ 0 ∷ 0 ∷ 0 ∷ 0 ∷ 0 ∷ 16 ∷ 0 ∷ 0 ∷ 0 ∷ 0 ∷ 0 ∷ 0 ∷ 0 ∷ 255 ∷ 127 ∷ 0 ∷ 0 ∷ 0 ∷ 0 ∷ 0 ∷ 0 ∷ 8 ∷ 0 ∷ 2 ∷ 0 ∷ 3 ∷ []) 129 129;
   answer = none;
   ranges = (2, Integer (pos 32767 ⋯ pos 32767)) ∷ [];
+  trials = [];
 }
 
 -- 8: 16,384 + 16,384 gives 8
@@ -47,6 +89,7 @@ case8 = record {
       ++ block (16 ∷ 0 ∷ 0 ∷ 0 ∷ 0 ∷ 0 ∷ 0 ∷ 0 ∷ 0 ∷ 64 ∷ 0 ∷ 0 ∷ 0 ∷ 0 ∷ 0 ∷ 0 ∷ 16 ∷ 0 ∷ 0 ∷ 0 ∷ 0 ∷ 0 ∷ 0 ∷ 0 ∷ 0 ∷ 64 ∷ 0 ∷ 0 ∷ 0 ∷ 0 ∷ 0 ∷ 0 ∷ 19 ∷ 0 ∷ 0 ∷ 0 ∷ 1 ∷ 0 ∷ 0 ∷ 0 ∷ 0 ∷ 0 ∷ 0 ∷ 0 ∷ 0 ∷ 0 ∷ 0 ∷ 0 ∷ 16 ∷ 0 ∷ 0 ∷ 0 ∷ 0 ∷ 0 ∷ 0 ∷ 0 ∷ 255 ∷ 127 ∷ 0 ∷ 0 ∷ 0 ∷ 0 ∷ 0 ∷ 0 ∷ 8 ∷ 0 ∷ 2 ∷ 0 ∷ 3 ∷ []) 180 104;
   answer = some (record { number = 8; place = 2 });
   ranges = [];
+  trials = [];
 }
 
 -- 9: minus of -32,767..0 is 0..32,767
@@ -57,6 +100,7 @@ case9 = record {
       ++ block (17 ∷ 0 ∷ 0 ∷ 0 ∷ 0 ∷ 0 ∷ 0 ∷ 0 ∷ 0 ∷ 0 ∷ 0 ∷ 0 ∷ 0 ∷ 0 ∷ 0 ∷ 0 ∷ 18 ∷ 0 ∷ 0 ∷ 0 ∷ 0 ∷ 0 ∷ 0 ∷ 0 ∷ 0 ∷ 0 ∷ 0 ∷ 0 ∷ 0 ∷ 0 ∷ 0 ∷ 0 ∷ 16 ∷ 0 ∷ 0 ∷ 0 ∷ 0 ∷ 0 ∷ 0 ∷ 0 ∷ 0 ∷ 0 ∷ 0 ∷ 0 ∷ 0 ∷ 0 ∷ 0 ∷ 0 ∷ 10 ∷ 0 ∷ 1 ∷ 0 ∷ 2 ∷ []) 220 5;
   answer = none;
   ranges = (0, Integer (negsuc 32766 ⋯ pos 0)) ∷ (1, Integer (pos 0 ⋯ pos 32767)) ∷ [];
+  trials = [];
 }
 
 -- 10: minus of -32,768..0 gives 8
@@ -67,6 +111,7 @@ case10 = record {
       ++ block (17 ∷ 0 ∷ 0 ∷ 0 ∷ 0 ∷ 0 ∷ 0 ∷ 0 ∷ 0 ∷ 0 ∷ 0 ∷ 0 ∷ 0 ∷ 0 ∷ 0 ∷ 0 ∷ 18 ∷ 0 ∷ 0 ∷ 0 ∷ 0 ∷ 0 ∷ 0 ∷ 0 ∷ 0 ∷ 0 ∷ 0 ∷ 0 ∷ 0 ∷ 0 ∷ 0 ∷ 0 ∷ 16 ∷ 0 ∷ 0 ∷ 0 ∷ 0 ∷ 0 ∷ 0 ∷ 0 ∷ 0 ∷ 0 ∷ 0 ∷ 0 ∷ 0 ∷ 0 ∷ 0 ∷ 0 ∷ 10 ∷ 0 ∷ 1 ∷ 0 ∷ 2 ∷ []) 220 5;
   answer = some (record { number = 8; place = 1 });
   ranges = [];
+  trials = [];
 }
 
 -- 11: -3..2 times -4..5 has range -15..12
@@ -77,14 +122,19 @@ case11 = record {
       ++ block (17 ∷ 0 ∷ 0 ∷ 0 ∷ 0 ∷ 0 ∷ 0 ∷ 0 ∷ 0 ∷ 0 ∷ 0 ∷ 0 ∷ 0 ∷ 0 ∷ 0 ∷ 0 ∷ 17 ∷ 0 ∷ 1 ∷ 0 ∷ 0 ∷ 0 ∷ 0 ∷ 0 ∷ 0 ∷ 0 ∷ 0 ∷ 0 ∷ 0 ∷ 0 ∷ 0 ∷ 0 ∷ 21 ∷ 0 ∷ 0 ∷ 0 ∷ 1 ∷ 0 ∷ 0 ∷ 0 ∷ 0 ∷ 0 ∷ 0 ∷ 0 ∷ 0 ∷ 0 ∷ 0 ∷ 0 ∷ 16 ∷ 0 ∷ 0 ∷ 0 ∷ 0 ∷ 0 ∷ 0 ∷ 0 ∷ 12 ∷ 0 ∷ 0 ∷ 0 ∷ 0 ∷ 0 ∷ 0 ∷ 0 ∷ 10 ∷ 0 ∷ 2 ∷ 0 ∷ 3 ∷ []) 188 13;
   answer = none;
   ranges = (2, Integer (negsuc 14 ⋯ pos 12)) ∷ [];
+  trials = [];
 }
 
 abbrev pub table : List Row
-table = worked ∷ case7 ∷ case8 ∷ case9 ∷ case10 ∷ case11 ∷ []
+table = worked ∷ case1 ∷ case2 ∷ case3 ∷ case7 ∷ case8 ∷ case9 ∷ case10 ∷ case11 ∷ []
 
 -- what the definitions give of a row, and what the row says
-abbrev pub run : Row → Option Refusal × List (ℕ × Finding)
-run r = (refusalOf (r .sheet), map (λ (p : ℕ × Finding). (p .0, findingAt (r .sheet) (p .0))) (r .ranges))
+abbrev pub run : Row → Option Refusal × List (ℕ × Finding) × List Trial
+run r = (
+  refusalOf (r .sheet),
+  map (λ (p : ℕ × Finding). (p .0, findingAt (r .sheet) (p .0))) (r .ranges),
+  map (λ (t : Trial). (firstFailure (ruleIn (r .sheet)), held (ruleIn (r .sheet)), failed (ruleIn (r .sheet)))) (r .trials),
+)
 
-abbrev pub told : Row → Option Refusal × List (ℕ × Finding)
-told r = (r .answer, r .ranges)
+abbrev pub told : Row → Option Refusal × List (ℕ × Finding) × List Trial
+told r = (r .answer, r .ranges, r .trials)

@@ -1,14 +1,19 @@
 -- The answers of the C interface as one number each (include/ragwashin.h).
 use Prim.Native.Nat.{ℕ, _+_, _*_, _^_}
-use mathlib.Core.Bool.{cond}
+use mathlib.Core.Path.{_≡_}
+use mathlib.Core.Bool.{Bool, cond}
 use mathlib.Core.List.{List}
 use mathlib.Core.Option.{Option, none, some}
+use lib.IntN.{ℤ}
+use lib.ListN.{length}
 use Rattle.numbers.specs.declared.Refusal.{Refusal}
+use Rattle.meaning.specs.Cases.{firstFailure, held, failed}
 use Rattle.layout.specs.Limits.{contentBytes, variablePlace}
-use Rattle.layout.specs.Parts.{nameSize}
+use Rattle.layout.specs.Parts.{nameSize, ruleIn}
 use Rattle.blocks.specs.Block.{blockGiven}
 use Rattle.reading.specs.Cascade.{refusalOf}
 use Rattle.reading.specs.Name.{nameGiven}
+use Rattle.cases.specs.Checks.{tryRefusal, checkRefusal, verdict, roomAfter}
 
 -- high 16 bits the refusal's number, low 48 bits its place; 0 where the sheet is accepted
 abbrev pub refusalCode : Option Refusal → ℕ
@@ -25,3 +30,24 @@ nameCode s i = cond (nameGiven s i) ((variablePlace i + 6) * 65536 + nameSize s 
 -- 510, or 0 where the part is empty; the part starts at 512 times k
 abbrev pub blockCode : List ℕ → ℕ → ℕ
 blockCode s k = cond (blockGiven s k) contentBytes 0
+
+-- ---- the check: the refusal, or 0 where the rule holds and 1 where it fails
+abbrev pub verdictBy : Option Refusal → Bool → ℕ
+verdictBy none fails = cond fails 1 0
+verdictBy (some r) fails = refusalCode (some r)
+
+abbrev pub verdictCode : Option Refusal × Bool → ℕ
+verdictCode v = verdictBy (v .0) (v .1)
+
+-- the code, and the room as `check` leaves it
+pub record CheckCodes (s : List ℕ) (before : List ℤ) (r : ℕ) (after : List ℤ) : Type 0 where
+  pub code : r ≡ verdictCode (verdict (checkRefusal s (length before)) (firstFailure (ruleIn s)))
+  pub room : after ≡ roomAfter (checkRefusal s (length before)) (firstFailure (ruleIn s)) before
+
+-- ---- the tally: the refusal, or held times 2^24 plus failed
+abbrev pub tallyBy : Option Refusal → ℕ → ℕ → ℕ
+tallyBy none h f = h * 2 ^ 24 + f
+tallyBy (some r) h f = refusalCode (some r)
+
+abbrev pub tallyCode : List ℕ → ℕ
+tallyCode s = tallyBy (tryRefusal s) (held (ruleIn s)) (failed (ruleIn s))

@@ -1,12 +1,18 @@
 // The C interface: the calls on numbers and slices, each answer one number. See include/ragwashin.h.
 ghost use mathlib.Core.Path.{_≡_};
-ghost use Rattle.capi.specs.Codes.{readCode, nameCode, blockCode};
+ghost use mathlib.Core.Option.{some};
+ghost use Prim.Native.Nat.{_<_, _^_};
+ghost use Rattle.capi.specs.Codes.{readCode, nameCode, blockCode, refusalCode, CheckCodes, tallyCode};
+use cases::Checked;
+use numbers::Refusal;
 use numbers::VariableNumber;
 use refusals::Reading;
 
 const NUMBER: u64 = 281474976710656;
 
 const OFFSET: u64 = 65536;
+
+const COUNT: u64 = 16777216;
 
 #[no_mangle]
 pub extern "C" fn ragwashin_read(sheet: &[u8]) -> u64
@@ -15,7 +21,7 @@ pub extern "C" fn ragwashin_read(sheet: &[u8]) -> u64
     let reading = reading::read(sheet);
     match reading {
         Reading::Accepted => 0,
-        Reading::Refused(refusal) => refusal.number as u64 * NUMBER + refusal.place as u64,
+        Reading::Refused(refusal) => refusal_code(refusal),
     }
 }
 
@@ -36,4 +42,36 @@ pub extern "C" fn ragwashin_block(sheet: &[u8], k: u64) -> u64
     ensures { λ r. ⌜ r ≡ blockCode (now (sheet .entry)) k ⌝ }
 {
     blocks::block(sheet, k as usize).len() as u64
+}
+
+// A refusal as one number.
+fn refusal_code(refusal: Refusal) -> u64
+    requires { ⌜ refusal .place < 2 ^ 48 ⌝ }
+    ensures { λ r. ⌜ r ≡ refusalCode (some refusal) ⌝ }
+{
+    refusal.number as u64 * NUMBER + refusal.place as u64
+}
+
+#[no_mangle]
+pub extern "C" fn ragwashin_check(sheet: &[u8], room: &mut [i16]) -> u64
+    ensures { λ r. ⌜ CheckCodes (now (sheet .entry)) (now (room .entry)) r (now (room .exit)) ⌝ }
+{
+    let checked = cases::check(sheet, room);
+    match checked {
+        Checked::Holds => 0,
+        Checked::Fails => 1,
+        Checked::Refused(refusal) => refusal_code(refusal),
+    }
+}
+
+#[no_mangle]
+pub extern "C" fn ragwashin_tally(sheet: &[u8]) -> u64
+    ensures { λ r. ⌜ r ≡ tallyCode (now (sheet .entry)) ⌝ }
+{
+    let tally = cases::tally(sheet);
+    let reading = tally.reading;
+    match reading {
+        Reading::Accepted => tally.held as u64 * COUNT + tally.failed as u64,
+        Reading::Refused(refusal) => refusal_code(refusal),
+    }
 }

@@ -1,3 +1,5 @@
 pub mod Tree
 pub mod Value
 pub mod Rule
+pub mod Cases
+pub mod Odometer

@@ -1,0 +1,127 @@
+// Times the library's check beside the ordinary evaluator, in one process, slice by slice in turn. A slice
+// takes 25 ms or less; of each side the quickest slice counts, since the machine may be busy with other work.
+
+mod ordinary;
+mod rules;
+mod stack;
+
+use std::time::{Duration, Instant};
+
+extern "C" {
+    fn ragwashin_check(sheet: *const u8, sheet_len: usize, room: *mut i16, room_len: usize) -> u64;
+}
+
+const SLICE: Duration = Duration::from_millis(25);
+const ROUNDS: usize = 7;
+const SLICES: usize = 20;
+
+fn main() {
+    println!(
+        "slices of at most {} ms, {} rounds of {} on each side in turn",
+        SLICE.as_millis(),
+        ROUNDS,
+        SLICES
+    );
+    println!("nodes     cases   library  ordinary   ratio   lowest and highest of the rounds");
+    for nodes in [3, 7, 31, 247] {
+        compare(nodes);
+    }
+    one_call(247);
+    tell_stack();
+}
+
+fn library(sheet: &[u8]) -> u64 {
+    let mut room = [0; rules::VARIABLES];
+    unsafe { ragwashin_check(sheet.as_ptr(), sheet.len(), room.as_mut_ptr(), room.len()) }
+}
+
+fn ordinary(sheet: &[u8]) -> u64 {
+    u64::from(ordinary::check(sheet).is_some())
+}
+
+type Check = fn(&[u8]) -> u64;
+
+/// How long so many calls take; each must answer that the rule holds.
+fn time(check: Check, sheet: &[u8], calls: u32) -> Duration {
+    let from = Instant::now();
+    for _ in 0..calls {
+        assert_eq!(check(sheet), 0, "the rule holds");
+    }
+    from.elapsed()
+}
+
+/// The sheet with the most cases of which a call of either side takes no longer than a slice.
+fn fitting(nodes: usize) -> (Vec<u8>, usize) {
+    let sheets =
+        (0..=rules::VARIABLES).rev().map(|moving| (rules::sheet(&rules::rule(nodes), moving), moving));
+    let fits = |sheet: &[u8]| [library, ordinary].iter().all(|&check| quickest(check, sheet, 1, 3) <= SLICE);
+    let (sheet, moving) = sheets.into_iter().find(|(sheet, _)| fits(sheet)).expect("one case takes no time");
+    (sheet, 10usize.pow(moving as u32))
+}
+
+fn quickest(check: Check, sheet: &[u8], calls: u32, slices: usize) -> Duration {
+    (0..slices).map(|_| time(check, sheet, calls)).min().expect("a slice")
+}
+
+/// Each side's quickest slice of a round, the sides taking turns.
+fn round(sheet: &[u8], calls: u32) -> (Duration, Duration) {
+    (0..SLICES)
+        .map(|_| (time(library, sheet, calls), time(ordinary, sheet, calls)))
+        .reduce(|best, slice| (best.0.min(slice.0), best.1.min(slice.1)))
+        .expect("a slice")
+}
+
+fn compare(nodes: usize) {
+    let (sheet, cases) = fitting(nodes);
+    let slower = [library, ordinary].iter().map(|&check| quickest(check, &sheet, 1, 3)).max();
+    let calls = (SLICE.as_nanos() / 2 / slower.expect("two sides").as_nanos().max(1)).clamp(1, 10_000) as u32;
+    let rounds: Vec<(Duration, Duration)> = (0..ROUNDS).map(|_| round(&sheet, calls)).collect();
+    let ratio = |(library, ordinary): (Duration, Duration)| library.as_secs_f64() / ordinary.as_secs_f64();
+    let best = rounds.iter().copied().reduce(|best, round| (best.0.min(round.0), best.1.min(round.1)));
+    let (library, ordinary) = best.expect("rounds");
+    let mut ratios: Vec<f64> = rounds.into_iter().map(ratio).collect();
+    ratios.sort_by(f64::total_cmp);
+    let per_case = |time: Duration| time.as_nanos() as f64 / f64::from(calls) / cases as f64;
+    println!(
+        "{:5} {:9} {:6.1} ns {:6.1} ns {:7.2}   {:.2} to {:.2}",
+        nodes,
+        cases,
+        per_case(library),
+        per_case(ordinary),
+        ratio((library, ordinary)),
+        ratios[0],
+        ratios[ROUNDS - 1]
+    );
+}
+
+/// The longest that a call of check can take, more or less; it is no slice, and says nothing of a ratio.
+fn one_call(nodes: usize) {
+    let sheet = rules::sheet(&rules::rule(nodes), rules::VARIABLES);
+    let (library, ordinary) = (time(library, &sheet, 1), time(ordinary, &sheet, 1));
+    println!(
+        "one call, {} nodes and 1,000,000 cases: library {:.2} s, ordinary {:.2} s",
+        nodes,
+        library.as_secs_f64(),
+        ordinary.as_secs_f64()
+    );
+}
+
+fn tell_stack() {
+    let sheets = [
+        ("3 nodes", rules::rule(3)),
+        ("247 nodes", rules::rule(247)),
+        ("248 nodes, not over not", rules::deepest(3)),
+        ("248 nodes, minus over minus", rules::deepest(18)),
+    ];
+    let nothing = stack::taken(|| {}).expect("nothing takes little");
+    for (name, rule) in sheets {
+        let sheet = rules::sheet(&rule, 1);
+        let bytes = stack::taken(move || {
+            library(&sheet);
+        });
+        match bytes {
+            Some(bytes) => println!("stack of a call of check, {}: {} bytes", name, bytes - nothing),
+            None => println!("stack of a call of check, {}: more than is measured", name),
+        }
+    }
+}

@@ -1,0 +1,68 @@
+-- The numbers that the check and the tally give in C tell their answers. Assumes nothing.
+use Prim.Native.Nat.{ℕ, _+_, _*_, _/_, _%_, _^_, _≤_, _<_}
+use mathlib.Core.Path.{_≡_, refl, sym, ap, ap₂, _∙_}
+use mathlib.Core.Bool.{Bool, true, false, cond}
+use mathlib.Core.List.{List}
+use mathlib.Core.Option.{Option, none, some}
+use native.Mathlib.Omega.{arith}
+use lib.IntN.{ℤ}
+use lib.ListN.{length}
+use Rattle.numbers.specs.declared.Refusal.{Refusal}
+use Rattle.meaning.specs.Cases.{firstFailure, held, failed}
+use Rattle.meaning.proofs.Counts.{case-count, held-failed}
+use Rattle.layout.specs.Limits.{mostNodes}
+use Rattle.layout.specs.Parts.{ruleIn}
+use Rattle.refusals.specs.declared.Reading.{Reading}
+use Rattle.refusals.specs.declared.Reading.the-variants.{Accepted, Refused as Turned}
+use Rattle.refusals.specs.Said.{saidOf}
+use Rattle.cases.specs.declared.Checked.{Checked}
+use Rattle.cases.specs.declared.Checked.the-variants.{Holds, Fails, Refused}
+use Rattle.cases.specs.declared.Tallied.{Tallied}
+use Rattle.cases.specs.Checks.{tryRefusal, checkRefusal, checkedSaid, verdict, Checks}
+use Rattle.cases.specs.Tallies.{unlessRefused, Tallies}
+use Rattle.cases.proofs.Exact.{tally-small, check-small}
+use Rattle.cases.proofs.TryLaws.{few-cases}
+use Rattle.capi.specs.Codes.{refusalCode, verdictCode, CheckCodes, tallyBy, tallyCode}
+
+module _ (s : List ℕ) where
+  -- ---- the check, by its answer
+  module _ {before after : List ℤ} {a : Checked} (c : Checks s before a after) where
+    answer-is : {v : Option Refusal × Bool} → checkedSaid a ≡ v → verdict (checkRefusal s (length before)) (firstFailure (ruleIn s)) ≡ v
+    answer-is e = sym (c .answer) ∙ e
+
+    pub checked-code : {n : ℕ} {v : Option Refusal × Bool} → checkedSaid a ≡ v → n ≡ verdictCode v → CheckCodes s before n after
+    checked-code e d = record { code = d ∙ ap verdictCode (sym (answer-is e)); room = c .room }
+
+    pub checked-place : {r : Refusal} → a ≡ Refused r → r .place < mostNodes
+    checked-place {r} d = go (checkRefusal s (length before)) refl (answer-is (ap checkedSaid d))
+      where
+        go : (o : Option Refusal) → checkRefusal s (length before) ≡ o → verdict o (firstFailure (ruleIn s)) ≡ (some r, false) → r .place < mostNodes
+        go none q w = absurd (let z : _≡_ {A = ℕ} 0 1 = cc (ap (λ (p : Option Refusal × Bool). p .0) w) in omega arith)
+        go (some t) q w = check-small s (length before) (q ∙ ap (λ (p : Option Refusal × Bool). p .0) w) .low-place
+
+  -- ---- the tally
+  module _ {t : Tallied} (c : Tallies s t) where
+    pub tally-place : {r : Refusal} → t .reading ≡ Turned r → r .place < mostNodes
+    tally-place d = tally-small s (sym (c .answer) ∙ ap saidOf d) .low-place
+
+    pub tally-refused : {r : Refusal} → t .reading ≡ Turned r → refusalCode (some r) ≡ tallyCode s
+    tally-refused d = ap (λ (o : Option Refusal). tallyBy o (held (ruleIn s)) (failed (ruleIn s))) (sym (ap saidOf d) ∙ c .answer)
+
+    tried : t .reading ≡ Accepted → tryRefusal s ≡ none
+    tried d = sym (c .answer) ∙ ap saidOf d
+
+    pub tally-counted : t .reading ≡ Accepted → t .held * 2 ^ 24 + t .failed ≡ tallyCode s
+    tally-counted d =
+        let e = tried d in
+        let h : t .held ≡ held (ruleIn s) = c .held-count ∙ ap (λ (o : Option Refusal). unlessRefused o (held (ruleIn s))) e in
+        let f : t .failed ≡ failed (ruleIn s) = c .failed-count ∙ ap (λ (o : Option Refusal). unlessRefused o (failed (ruleIn s))) e in
+        ap₂ (λ (a b : ℕ). a * 2 ^ 24 + b) h f ∙ ap (λ (o : Option Refusal). tallyBy o (held (ruleIn s)) (failed (ruleIn s))) (sym e)
+
+  -- both counts are told from the code, and it is below that of every refusal
+  pub tally-tells : tryRefusal s ≡ none → (tallyCode s / 2 ^ 24 ≡ held (ruleIn s)) × (tallyCode s % 2 ^ 24 ≡ failed (ruleIn s)) × (tallyCode s < 2 ^ 48)
+  tally-tells e =
+      let n = few-cases s e in
+      let b = held-failed (ruleIn s) in
+      let l = case-count (ruleIn s) in
+      let c : tallyCode s ≡ held (ruleIn s) * 2 ^ 24 + failed (ruleIn s) = ap (λ (o : Option Refusal). tallyBy o (held (ruleIn s)) (failed (ruleIn s))) e in
+      (omega arith, omega arith, omega arith)

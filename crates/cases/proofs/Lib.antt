@@ -1,0 +1,4 @@
+pub mod TryLaws
+pub mod Unique
+pub mod Agreement
+pub mod Exact

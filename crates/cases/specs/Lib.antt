@@ -1,0 +1,4 @@
+pub mod Checks
+pub mod Tallies
+pub mod Rows
+pub mod Ready

@@ -1,0 +1,14 @@
+-- `less` meets its contract: in each arm the test's answer. Assumes nothing.
+use mir.Facts.{toZ-ofZ}
+use Rattle.evaluator.proofs.NumberLaws.{bit-yes, bit-no}
+use Rattle.evaluator.proofs.less.Statement.{statement}
+use Rattle.evaluator.proofs.less.Tie as tie
+
+returns : tie.Need-returns
+returns c = bit-yes (simp (toZ-ofZ (c .before .fits .x), toZ-ofZ (c .before .fits .y)) at (c .if1 .taken))
+
+returns-2 : tie.Need-returns-2
+returns-2 c = bit-no (simp (toZ-ofZ (c .before .fits .x), toZ-ofZ (c .before .fits .y)) at (c .if1 .left))
+
+pub less-spec : {M : Type 1} → statement M
+less-spec = tie.close (tie.spec returns returns-2)

@@ -1,0 +1,12 @@
+pub mod Repeats
+pub mod Members
+pub mod Listed
+pub mod Counts
+pub mod Failures
+pub mod Onward
+pub mod SomeCase
+pub mod Row
+pub mod Advancing
+pub mod Rounds
+pub mod Counting
+pub mod Worked

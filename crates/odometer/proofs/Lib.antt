@@ -1,0 +1,4 @@
+pub mod Domains
+pub mod Sizes
+pub mod Counted
+pub mod LimitLaws

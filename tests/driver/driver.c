@@ -1,0 +1,155 @@
+/* Puts trials to the library: reads them on standard input, calls the archive's functions (by the part
+   that it is linked with) and writes the answers. The lent sheet ends where a page without access begins,
+   and so does the lent room, so that a look or a store past it ends the program; some are lent a second
+   time right after such a page, and must be answered alike. Answers are written trial by trial, so that the
+   last one written tells where the program ended. A trial is as the oracle has it. With an argument, the
+   driver itself goes past or before what it lends, to show that this is caught. No headers: the kit has
+   none. */
+#include "driver.h"
+
+extern long read(int, void *, size);
+extern long write(int, const void *, size);
+extern void *mmap(void *, size, int, int, int, long);
+extern int mprotect(void *, size, int);
+
+enum { PAGE = 4096, MOST_BYTES = 64 << 20, MOST_ROOM = 1 << 20, MOST_ANSWERS = 1 << 20, MOST_QUESTIONS = 1024 };
+enum { QUESTION = 9, LENT_TWICE = 4, BESIDE = 64 };
+enum { /* exit statuses */
+    CUT_SHORT = 2, TOO_MUCH = 3, NO_MEMORY = 4, NOT_WRITTEN = 5, SHEET_CHANGED = 6, NO_SUCH_SUBJECT = 7,
+    NOT_ALIKE = 8, CHANGED_BESIDE_ROOM = 9
+};
+
+enum side { END, START }; /* which side of an area is lent */
+
+static byte *sheets, *rooms; /* areas between two pages without access */
+static byte kept[MOST_BYTES]; /* what was lent, to be compared afterwards */
+static byte questions[QUESTION * MOST_QUESTIONS];
+static byte answers[MOST_ANSWERS], again[MOST_ANSWERS];
+
+/* Gives how many bytes came, fewer than asked for at the end of the input only. */
+static size take(byte *to, size count) {
+    size have = 0;
+    while (have < count) {
+        long came = read(0, to + have, count - have);
+        if (came <= 0) break;
+        have += came;
+    }
+    return have;
+}
+
+static int give(const byte *from, size count) {
+    for (size done = 0; done < count;) {
+        long went = write(1, from + done, count - done);
+        if (went <= 0) return 0;
+        done += went;
+    }
+    return 1;
+}
+
+static unsigned long number(const byte *from, int count) {
+    unsigned long n = 0;
+    for (int i = count; i > 0; i--) n = n << 8 | from[i - 1];
+    return n;
+}
+
+static void copy(byte *to, const byte *from, size count) {
+    for (size i = 0; i < count; i++) to[i] = from[i];
+}
+
+static int same(const byte *one, const byte *other, size count) {
+    for (size i = 0; i < count; i++)
+        if (one[i] != other[i]) return 0;
+    return 1;
+}
+
+/* This many bytes between two pages without access, or null. */
+static byte *area_of(size bytes) {
+    byte *area = mmap(0, bytes + 2 * PAGE, 3, 0x22, -1, 0); /* read and write; private, no file */
+    if (area == (byte *)-1) return 0;
+    byte *within = area + PAGE;
+    return mprotect(area, PAGE, 0) || mprotect(within + bytes, PAGE, 0) ? 0 : within;
+}
+
+/* The bytes of a subject's room for each number of its length; 0 where it has none. */
+static size room_unit(byte subject) { return subject == CHECK ? 2 : 0; }
+
+static byte filling(unsigned pattern, unsigned place) { return pattern * (2 * place + 1) >> 24; }
+
+/* The bytes beside the room, on the side that has access. */
+static byte *beside(byte *room, size bytes, enum side side) { return side == END ? room - BESIDE : room + bytes; }
+
+static void fill(byte *room, size bytes, enum side side, unsigned pattern) {
+    for (size i = 0; i < bytes; i++) room[i] = filling(pattern, i);
+    for (unsigned i = 0; i < BESIDE; i++) beside(room, bytes, side)[i] = filling(~pattern, i);
+}
+
+static int kept_beside(byte *room, size bytes, enum side side, unsigned pattern) {
+    for (unsigned i = 0; i < BESIDE; i++)
+        if (beside(room, bytes, side)[i] != filling(~pattern, i)) return 0;
+    return 1;
+}
+
+/* Writes the answer to one question, and the room after it; gives a status and adds what was written. */
+static int answer_one(const byte *question, const byte *sheet, size length, enum side side, byte *to, size *at) {
+    unsigned long asked = number(question + 1, 8), said;
+    unsigned pattern = asked >> 32;
+    size room_length = asked & 0xffffffff, bytes = room_length * room_unit(question[0]);
+    if (bytes + BESIDE > MOST_ROOM || *at + 8 + bytes > MOST_ANSWERS) return TOO_MUCH;
+    byte *room = side == END ? rooms + MOST_ROOM - bytes : rooms;
+    struct lent lent = {sheet, length, room, room_length};
+    fill(room, bytes, side, pattern);
+    if (!answer(question[0], asked, lent, &said)) return NO_SUCH_SUBJECT;
+    if (!kept_beside(room, bytes, side, pattern)) return CHANGED_BESIDE_ROOM;
+    for (int i = 0; i < 8; i++) to[*at + i] = said >> 8 * i;
+    copy(to + *at + 8, room, bytes);
+    *at += 8 + bytes;
+    return 0;
+}
+
+/* Lends the kept bytes on this side and writes the answers to all questions. */
+static int answer_all(enum side side, size length, size count, byte *to, size *written) {
+    byte *sheet = side == END ? sheets + MOST_BYTES - length : sheets;
+    copy(sheet, kept, length);
+    *written = 0;
+    for (size q = 0; q < count; q++) {
+        int status = answer_one(questions + QUESTION * q, sheet, length, side, to, written);
+        if (status) return status;
+    }
+    return same(sheet, kept, length) ? 0 : SHEET_CHANGED;
+}
+
+static int answer_trial(size length, size count, size trial) {
+    size written, again_written;
+    int status = answer_all(END, length, count, answers, &written);
+    if (!status && trial % LENT_TWICE == 0) {
+        status = answer_all(START, length, count, again, &again_written);
+        if (!status && !(written == again_written && same(answers, again, written))) status = NOT_ALIKE;
+    }
+    return status ? status : give(answers, written) ? 0 : NOT_WRITTEN;
+}
+
+/* Goes where 'past-sheet', 'before-sheet', 'past-room' or 'before-room' says. */
+static int elsewhere(const char *where) {
+    int past = where[0] == 'p', sheet = where[past ? 5 : 7] == 's';
+    if (sheet) return *(volatile byte *)(past ? sheets + MOST_BYTES : sheets - 1);
+    *(volatile byte *)(past ? rooms + MOST_ROOM : rooms - 1) = 1;
+    return 0;
+}
+
+int main(int words, char **word) {
+    byte head[8];
+    sheets = area_of(MOST_BYTES);
+    rooms = area_of(MOST_ROOM);
+    if (!sheets || !rooms) return NO_MEMORY;
+    if (words > 1) return elsewhere(word[1]);
+    for (size trial = 0;; trial++) {
+        size came = take(head, 8), length = number(head, 4), count = number(head + 4, 4);
+        if (came == 0) return 0;
+        if (came < 8) return CUT_SHORT;
+        if (length > MOST_BYTES || count > MOST_QUESTIONS) return TOO_MUCH;
+        if (take(kept, length) < length) return CUT_SHORT;
+        if (take(questions, QUESTION * count) < QUESTION * count) return CUT_SHORT;
+        int status = answer_trial(length, count, trial);
+        if (status) return status;
+    }
+}

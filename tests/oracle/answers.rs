@@ -1,0 +1,109 @@
+// The answers to the questions about one sheet, as the C interface gives them.
+
+use crate::blocks;
+use crate::cases;
+use crate::reading::{self, refuse, Refusal, Rule};
+
+/// A lent room: how many bytes it has, and what it is filled with beforehand.
+pub struct Room {
+    bytes: Vec<u8>,
+    /// In numbers or bytes, as the call has it.
+    length: usize,
+}
+
+impl Room {
+    /// `unit` bytes for each of the numbers that the question's low 32 bits count, filled by the high 32.
+    fn lent(question: u64, unit: usize) -> Room {
+        let (length, pattern) = ((question % (1 << 32)) as usize, (question >> 32) as u32);
+        let filled = (0..length * unit).map(|i| (pattern.wrapping_mul(2 * i as u32 + 1) >> 24) as u8);
+        Room { bytes: filled.collect(), length }
+    }
+
+    /// Puts bytes to the front, and leaves the rest.
+    fn put(&mut self, front: &[u8]) {
+        self.bytes[..front.len()].copy_from_slice(front);
+    }
+}
+
+/// A sheet with what has been found out about it.
+pub struct Asked {
+    sheet: Vec<u8>,
+    reading: Result<Rule, Refusal>,
+    /// Worked out when first asked for, as the tally.
+    first_failure: Option<Option<Vec<i64>>>,
+    tally: Option<(u64, u64)>,
+}
+
+impl Asked {
+    pub fn about(sheet: Vec<u8>) -> Asked {
+        let reading = reading::read(&sheet);
+        Asked { sheet, reading, first_failure: None, tally: None }
+    }
+
+    /// The answer's number, then the bytes of the room after it, if the question lends one.
+    pub fn answer(&mut self, subject: u8, number: u64) -> Vec<u8> {
+        match subject {
+            1 => alone(code(self.read())),
+            2 => alone(self.name(number)),
+            3 => alone(blocks::content(&self.sheet, number).map_or(0, |content| content.len() as u64)),
+            4 => {
+                let mut room = Room::lent(number, 2);
+                let said = code(self.check(&mut room));
+                with_room(said, room)
+            }
+            5 => alone(code(self.tally())),
+            _ => panic!("no question has subject {}", subject),
+        }
+    }
+
+    fn rule(&self) -> Result<&Rule, Refusal> {
+        self.reading.as_ref().map_err(|&refusal| refusal)
+    }
+
+    fn read(&self) -> Result<u64, Refusal> {
+        self.rule().map(|_| 0)
+    }
+
+    fn name(&self, variable: u64) -> u64 {
+        let named = self.rule().ok().and_then(|rule| rule.variables.get(variable as usize));
+        named.map_or(0, |variable| variable.name_offset as u64 * 65_536 + variable.name.len() as u64)
+    }
+
+    /// 0 holds, 1 fails.
+    fn check(&mut self, room: &mut Room) -> Result<u64, Refusal> {
+        let rule = self.reading.as_ref().map_err(|&refusal| refusal)?;
+        let count = cases::count(rule)?;
+        if room.length < rule.variables.len() {
+            return refuse(9, rule.variables.len());
+        }
+        match self.first_failure.get_or_insert_with(|| cases::first_failure(rule, count)) {
+            None => Ok(0),
+            Some(case) => {
+                room.put(&case.iter().flat_map(|&value| (value as i16).to_le_bytes()).collect::<Vec<u8>>());
+                Ok(1)
+            }
+        }
+    }
+
+    fn tally(&mut self) -> Result<u64, Refusal> {
+        let rule = self.reading.as_ref().map_err(|&refusal| refusal)?;
+        let count = cases::count(rule)?;
+        let (held, failed) = *self.tally.get_or_insert_with(|| cases::tally(rule, count));
+        Ok(held * (1 << 24) + failed)
+    }
+}
+
+/// High 16 bits the refusal's number, low 48 bits its place or the answer.
+fn code(answer: Result<u64, Refusal>) -> u64 {
+    answer.unwrap_or_else(|refusal| refusal.number << 48 | refusal.place)
+}
+
+fn alone(said: u64) -> Vec<u8> {
+    said.to_le_bytes().to_vec()
+}
+
+fn with_room(said: u64, room: Room) -> Vec<u8> {
+    let mut answer = alone(said);
+    answer.extend(room.bytes);
+    answer
+}

@@ -1,0 +1,120 @@
+// The kinds of answer that an answer is an instance of; `required` lists all that must be met.
+
+use crate::layout::*;
+use crate::question::{Answer, Question};
+use crate::trees::KINDS;
+
+/// `reading` is the number of the refusal that the sheet is read with.
+pub fn kinds_of_answer(sheet: &[u8], question: Question, answer: &Answer, reading: u64) -> Vec<String> {
+    match question {
+        Question::Read => kinds_of_reading("read", sheet, answer),
+        Question::Name(variable) => kinds_of_name(variable, answer.said, reading),
+        Question::Block(k) => vec![kind_of_block(sheet, k, answer.said)],
+        Question::Check(_) => kinds_of_check(sheet, answer),
+        Question::Tally => kinds_of_tally(sheet, answer),
+    }
+}
+
+/// Accepted, or a refusal 1 to 8, as this call has it.
+fn kinds_of_reading(call: &str, sheet: &[u8], answer: &Answer) -> Vec<String> {
+    let (number, place) = (answer.refusal(), answer.low() as usize);
+    match number {
+        0 => vec![format!("{}: accepted, {} blocks", call, sheet.len() / BLOCK)],
+        1 if sheet.is_empty() => vec![format!("{}: 1 at {}, no bytes", call, place)],
+        1 if sheet.len() % BLOCK != 0 => vec![format!("{}: 1 at {}, no multiple of 512", call, place)],
+        1 if sheet.len() > MOST_BYTES => vec![format!("{}: 1 at {}, over 4,608", call, place)],
+        2 => vec![format!("{}: 2 at block {}", call, place)],
+        5 => vec![format!("{}: 5 at variable {}", call, place)],
+        6..=8 => kinds_of_node(call, sheet, number, place),
+        _ => vec![format!("{}: {} at {}", call, number, place)],
+    }
+}
+
+fn kinds_of_node(call: &str, sheet: &[u8], number: u64, node: usize) -> Vec<String> {
+    let last = usize::from(sheet[2]) - 1;
+    let place = match node {
+        0 if last == 0 => "the only node",
+        0 => "node 0 of more",
+        _ if node == last => "N - 1",
+        _ => "a node between",
+    };
+    let kind = sheet[node_at(node)];
+    let kind = if KINDS.contains(&kind) { format!("kind {}", kind) } else { "no kind".to_string() };
+    vec![
+        format!("{}: {} at {}", call, number, place),
+        format!("{}: {} in block {}", call, number, 1 + node / NODES_IN_BLOCK),
+        format!("{}: {} at {}", call, number, kind),
+    ]
+}
+
+fn kinds_of_name(variable: u16, answer: u64, refusal: u64) -> Vec<String> {
+    match (answer, refusal) {
+        (0, 0) => vec!["name: empty, not below V".to_string()],
+        (0, _) => vec![format!("name: empty, refusal {}", refusal)],
+        _ => vec![format!("name: of variable {}", variable), format!("name: of length {}", answer % 65_536)],
+    }
+}
+
+fn kind_of_block(sheet: &[u8], k: u64, answer: u64) -> String {
+    let (from, length) = (u128::from(k) * BLOCK as u128, sheet.len() as u128);
+    match answer {
+        0 if from >= length => "block: empty, past the lent bytes".to_string(),
+        0 if from + BLOCK as u128 > length => "block: empty, partly inside".to_string(),
+        0 => "block: empty, check wrong".to_string(),
+        _ if k > 65_520 => "block: of a number over 65,520".to_string(),
+        _ if k > 9 => "block: of a number over 9".to_string(),
+        _ => format!("block: {}", k),
+    }
+}
+
+fn kinds_of_check(sheet: &[u8], answer: &Answer) -> Vec<String> {
+    let (variables, room) = (sheet.get(4).map_or(0, |&count| usize::from(count)), answer.room.len() / 2);
+    let room = match room {
+        _ if room == variables => "room for V",
+        _ if room == variables + 1 => "room for V + 1",
+        _ if room > variables => "room for more",
+        0 => "no room",
+        _ if room + 1 == variables => "room for V - 1",
+        _ => "less room than V",
+    };
+    match (answer.refusal(), answer.low()) {
+        (0, 0) => vec![format!("check: holds, V = {}", variables), format!("check: holds, {}", room)],
+        (0, 1) => vec![
+            format!("check: fails, V = {}", variables),
+            format!("check: fails, {}", room),
+            format!("check: fails in {}", which_case(sheet, variables, &answer.numbers())),
+        ],
+        (9, place) => vec![format!("check: 9 at {}", place), format!("check: 9, {}", room)],
+        (10, place) => vec![format!("check: 10 at {}, {}", place, room)],
+        _ => kinds_of_reading("check", sheet, answer),
+    }
+}
+
+fn which_case(sheet: &[u8], variables: usize, case: &[i64]) -> &'static str {
+    let end = |at: usize| i64::from(i16::from_le_bytes([sheet[at], sheet[at + 1]]));
+    let lowest = (0..variables).all(|variable| case[variable] == end(variable_at(variable)));
+    let highest = (0..variables).all(|variable| case[variable] == end(variable_at(variable) + 2));
+    match (lowest, highest) {
+        (true, true) => "the only case",
+        (true, false) => "the first case",
+        (false, true) => "the last case",
+        (false, false) => "a case between",
+    }
+}
+
+fn kinds_of_tally(sheet: &[u8], answer: &Answer) -> Vec<String> {
+    let (held, failed) = (answer.low() >> 24, answer.low() % (1 << 24));
+    let counts = match (held, failed) {
+        _ if answer.refusal() == 10 => return vec![format!("tally: 10 at {}", answer.low())],
+        _ if answer.refusal() != 0 => return kinds_of_reading("tally", sheet, answer),
+        (_, 0) => "all held",
+        (0, _) => "all failed",
+        _ => "some held, some failed",
+    };
+    let count = match held + failed {
+        1 => "one case",
+        1_000_000 => "1,000,000 cases",
+        _ => "some cases",
+    };
+    vec![format!("tally: {}", counts), format!("tally: {}", count)]
+}
