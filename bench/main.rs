@@ -14,6 +14,8 @@ extern "C" {
 const SLICE: Duration = Duration::from_millis(25);
 const ROUNDS: usize = 7;
 const SLICES: usize = 20;
+const CASES: [usize; 10] =
+    [1_000_000, 500_000, 200_000, 100_000, 50_000, 20_000, 10_000, 5_000, 2_000, 1_000];
 
 fn main() {
     println!(
@@ -50,13 +52,11 @@ fn time(check: Check, sheet: &[u8], calls: u32) -> Duration {
     from.elapsed()
 }
 
-/// The sheet with the most cases of which a call of either side takes no longer than a slice.
+/// The sheet with the most cases of which a call of either side takes no longer than a slice, and how many.
 fn fitting(nodes: usize) -> (Vec<u8>, usize) {
-    let sheets =
-        (0..=rules::VARIABLES).rev().map(|moving| (rules::sheet(&rules::rule(nodes), moving), moving));
     let fits = |sheet: &[u8]| [library, ordinary].iter().all(|&check| quickest(check, sheet, 1, 3) <= SLICE);
-    let (sheet, moving) = sheets.into_iter().find(|(sheet, _)| fits(sheet)).expect("one case takes no time");
-    (sheet, 10usize.pow(moving as u32))
+    let sheets = CASES.iter().map(|&cases| (rules::sheet(&rules::rule(nodes), cases), cases));
+    sheets.into_iter().find(|(sheet, _)| fits(sheet)).expect("few cases take little time")
 }
 
 fn quickest(check: Check, sheet: &[u8], calls: u32, slices: usize) -> Duration {
@@ -96,7 +96,7 @@ fn compare(nodes: usize) {
 
 /// The longest that a call of check can take, more or less; it is no slice, and says nothing of a ratio.
 fn one_call(nodes: usize) {
-    let sheet = rules::sheet(&rules::rule(nodes), rules::VARIABLES);
+    let sheet = rules::sheet(&rules::rule(nodes), CASES[0]);
     let (library, ordinary) = (time(library, &sheet, 1), time(ordinary, &sheet, 1));
     println!(
         "one call, {} nodes and 1,000,000 cases: library {:.2} s, ordinary {:.2} s",
@@ -115,7 +115,7 @@ fn tell_stack() {
     ];
     let nothing = stack::taken(|| {}).expect("nothing takes little");
     for (name, rule) in sheets {
-        let sheet = rules::sheet(&rule, 1);
+        let sheet = rules::sheet(&rule, 10);
         let bytes = stack::taken(move || {
             library(&sheet);
         });

@@ -3,8 +3,7 @@
 const BLOCK: usize = 512;
 pub const VARIABLES: usize = 6;
 const LEAST: i16 = -4;
-const VALUES: i16 = 10;
-const GREATEST: i16 = LEAST + VALUES - 1;
+const GREATEST: i16 = 5;
 
 /// A node's kind, a constant's value or a variable's number, and its operands.
 pub struct Tree {
@@ -69,17 +68,18 @@ pub fn deepest(kind: u8) -> Tree {
     }
 }
 
-/// The sheet of a rule in which this many variables have ten values, and the others one.
-pub fn sheet(rule: &Tree, moving: usize) -> Vec<u8> {
+/// The sheet of a rule with this many cases: 1, 2 or 5 times a power of ten, 1,000,000 at most.
+pub fn sheet(rule: &Tree, mut cases: usize) -> Vec<u8> {
     let mut nodes = Vec::new();
     push(rule, &mut nodes);
     let mut sheet = vec![0; BLOCK * (1 + (nodes.len() + 30) / 31)];
     sheet[..5].copy_from_slice(&[1, 0, nodes.len() as u8, 0, VARIABLES as u8]);
     for number in 0..VARIABLES {
-        let greatest = if number < moving { GREATEST } else { LEAST };
+        let values = cases.min(10);
+        cases /= values;
         let record = &mut sheet[8 + 24 * number..][..24];
         record[..2].copy_from_slice(&LEAST.to_le_bytes());
-        record[2..4].copy_from_slice(&greatest.to_le_bytes());
+        record[2..4].copy_from_slice(&(LEAST + values as i16 - 1).to_le_bytes());
         record[4] = 1;
         record[6] = b'a' + number as u8;
     }

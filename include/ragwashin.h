@@ -27,6 +27,10 @@ uint64_t ragwashin_check(const uint8_t *sheet, size_t sheet_len, int16_t *room, 
    that held times 2^24 plus the number that failed. */
 uint64_t ragwashin_tally(const uint8_t *sheet, size_t sheet_len);
 
+/* Writes the script. High 16 bits: the refusal's number, 0 where it is written; low 48 bits: the refusal's place, else the bytes written, which
+   stand at the front of the room; nothing else of the room is ever changed. 4,096 bytes are enough for every sheet. */
+uint64_t ragwashin_script(const uint8_t *sheet, size_t sheet_len, uint8_t *room, size_t room_len);
+
 #ifdef __cplusplus
 }
 #endif

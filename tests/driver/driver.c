@@ -71,7 +71,7 @@ static byte *area_of(size bytes) {
 }
 
 /* The bytes of a subject's room for each number of its length; 0 where it has none. */
-static size room_unit(byte subject) { return subject == CHECK ? 2 : 0; }
+static size room_unit(byte subject) { return subject == CHECK ? 2 : subject == SCRIPT ? 1 : 0; }
 
 static byte filling(unsigned pattern, unsigned place) { return pattern * (2 * place + 1) >> 24; }
 

@@ -2,7 +2,7 @@
 typedef unsigned long size;
 typedef unsigned char byte;
 
-enum { READ = 1, NAME = 2, BLOCK = 3, CHECK = 4, TALLY = 5 }; /* a question's subject */
+enum { READ = 1, NAME = 2, BLOCK = 3, CHECK = 4, TALLY = 5, SCRIPT = 6 }; /* a question's subject */
 
 struct lent {
     const byte *sheet;

@@ -3,6 +3,7 @@
 use crate::blocks;
 use crate::cases;
 use crate::reading::{self, refuse, Refusal, Rule};
+use crate::script;
 
 /// A lent room: how many bytes it has, and what it is filled with beforehand.
 pub struct Room {
@@ -29,15 +30,16 @@ impl Room {
 pub struct Asked {
     sheet: Vec<u8>,
     reading: Result<Rule, Refusal>,
-    /// Worked out when first asked for, as the tally.
+    /// Worked out when first asked for, as the tally and the script.
     first_failure: Option<Option<Vec<i64>>>,
     tally: Option<(u64, u64)>,
+    script: Option<String>,
 }
 
 impl Asked {
     pub fn about(sheet: Vec<u8>) -> Asked {
         let reading = reading::read(&sheet);
-        Asked { sheet, reading, first_failure: None, tally: None }
+        Asked { sheet, reading, first_failure: None, tally: None, script: None }
     }
 
     /// The answer's number, then the bytes of the room after it, if the question lends one.
@@ -52,6 +54,11 @@ impl Asked {
                 with_room(said, room)
             }
             5 => alone(code(self.tally())),
+            6 => {
+                let mut room = Room::lent(number, 1);
+                let said = code(self.write_script(&mut room));
+                with_room(said, room)
+            }
             _ => panic!("no question has subject {}", subject),
         }
     }
@@ -90,6 +97,31 @@ impl Asked {
         let count = cases::count(rule)?;
         let (held, failed) = *self.tally.get_or_insert_with(|| cases::tally(rule, count));
         Ok(held * (1 << 24) + failed)
+    }
+
+    /// The bytes written.
+    fn write_script(&mut self, room: &mut Room) -> Result<u64, Refusal> {
+        let rule = self.reading.as_ref().map_err(|&refusal| refusal)?;
+        let script = self.script.get_or_insert_with(|| script::script(rule));
+        if room.length < script.len() {
+            return refuse(9, script.len());
+        }
+        room.put(script.as_bytes());
+        Ok(script.len() as u64)
+    }
+
+    /// Whether some case fails, if there are not too many.
+    pub fn fails(&self) -> Result<bool, Refusal> {
+        let rule = self.rule()?;
+        Ok(cases::first_failure(rule, cases::count(rule)?).is_some())
+    }
+}
+
+/// What the program writes when it reads these bytes.
+pub fn program(input: &[u8]) -> String {
+    match reading::read(&input[..input.len().min(4_609)]) {
+        Ok(rule) => script::script(&rule),
+        Err(Refusal { number, place }) => format!("refused {} at {}\n", number, place),
     }
 }
 

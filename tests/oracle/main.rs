@@ -1,8 +1,12 @@
 // The oracle: reads trials on standard input and writes the answers that document 01 demands.
 // Written from document 01 alone; it shares no code with the library or with the tests' sheets.
 //
+//   oracle             answers the questions of each trial
+//   oracle verdicts    says of each trial's sheet, one to a line: 'fails', 'holds' or 'refused'
+//   oracle program     writes what the program writes, with the same standard input
+//
 // A trial is: sheet length (u32), number of questions (u32), the sheet, then for each question its
-// subject (one byte: 1 read, 2 name, 3 block, 4 check, 5 tally) and a number (u64). An answer is a u64 and,
+// subject (one byte: 1 read, 2 name, 3 block, 4 check, 5 tally, 6 script) and a number (u64). An answer is a u64 and,
 // where the question lends a room, the whole room afterwards. All little-endian. For a room, the number's
 // low 32 bits are its length and the high 32 a pattern: byte i of the room is first the highest byte of
 // pattern * (2 i + 1), taken modulo 2^32.
@@ -11,6 +15,7 @@ mod answers;
 mod blocks;
 mod cases;
 mod reading;
+mod script;
 mod trees;
 mod variables;
 
@@ -20,13 +25,39 @@ use std::io::{self, BufReader, BufWriter, Read, Write};
 fn main() -> io::Result<()> {
     let mut input = BufReader::with_capacity(1 << 20, io::stdin());
     let mut output = BufWriter::with_capacity(1 << 20, io::stdout());
-    while let Some((sheet, questions)) = next_trial(&mut input)? {
+    match std::env::args().nth(1).as_deref() {
+        None => answer(&mut input, &mut output)?,
+        Some("verdicts") => verdicts(&mut input, &mut output)?,
+        Some("program") => {
+            let mut bytes = Vec::new();
+            input.read_to_end(&mut bytes)?;
+            output.write_all(answers::program(&bytes).as_bytes())?;
+        }
+        Some(word) => panic!("'{}' is nothing that the oracle knows", word),
+    }
+    output.flush()
+}
+
+fn answer(input: &mut impl Read, output: &mut impl Write) -> io::Result<()> {
+    while let Some((sheet, questions)) = next_trial(input)? {
         let mut asked = Asked::about(sheet);
         for (subject, number) in questions {
             output.write_all(&asked.answer(subject, number))?;
         }
     }
-    output.flush()
+    Ok(())
+}
+
+fn verdicts(input: &mut impl Read, output: &mut impl Write) -> io::Result<()> {
+    while let Some((sheet, _)) = next_trial(input)? {
+        let verdict = match Asked::about(sheet).fails() {
+            Ok(true) => "fails",
+            Ok(false) => "holds",
+            Err(_) => "refused",
+        };
+        writeln!(output, "{}", verdict)?;
+    }
+    Ok(())
 }
 
 type Trial = (Vec<u8>, Vec<(u8, u64)>);

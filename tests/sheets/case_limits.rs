@@ -77,25 +77,25 @@ fn just_under(random: &mut Random) -> Vec<usize> {
     mixed(random, vec![one, MOST_CASES / one])
 }
 
-fn just_over(random: &mut Random) -> Vec<usize> {
+pub fn just_over(random: &mut Random) -> Vec<usize> {
     let one = 16 + random.below(30_000);
     mixed(random, vec![one, MOST_CASES / one + 1])
 }
 
 /// A product just over 2^32.
-fn wrapped(random: &mut Random) -> Vec<usize> {
+pub fn wrapped(random: &mut Random) -> Vec<usize> {
     let (one, other) = (260 + random.below(700), 260 + random.below(700));
     let product = one * other;
     mixed(random, vec![one, other, (1usize << 32) / product + 1])
 }
 
-fn far_over(random: &mut Random) -> Vec<usize> {
+pub fn far_over(random: &mut Random) -> Vec<usize> {
     let variables = 4 + random.below(MOST_VARIABLES - 6);
     let sizes = (0..variables).map(|_| 100 + random.below(WIDEST - 99)).collect();
     mixed(random, sizes)
 }
 
-fn grower<'r>(random: &'r mut Random, sizes: &[usize]) -> Grower<'r> {
+pub fn grower<'r>(random: &'r mut Random, sizes: &[usize]) -> Grower<'r> {
     let domains: Vec<Range> = sizes.iter().map(|&size| domain(random, size)).collect();
     Grower::with_domains(random, &domains)
 }

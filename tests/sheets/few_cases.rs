@@ -99,7 +99,7 @@ fn some_variable(grower: &mut Grower) -> Tree {
 }
 
 /// A truth value of exactly this many nodes, made of comparisons that often hold and often fail.
-fn telling(grower: &mut Grower, size: usize) -> Tree {
+pub fn telling(grower: &mut Grower, size: usize) -> Tree {
     match size {
         1 | 2 => grower.truth(size),
         3..=5 => comparison(grower, size),

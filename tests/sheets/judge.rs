@@ -1,11 +1,11 @@
 // Compares the library's answers with the oracle's, and the oracle's with what is known beforehand;
 // tells what was met, going by the oracle's answers alone.
 
-use crate::met::kinds_of_answer;
+use crate::met::{kinds_of_answer, LONGEST};
 use crate::question::{Answer, Known, Question};
 use std::collections::BTreeMap;
 
-/// How often each label and each kind of answer was met.
+/// How often each label and each kind of answer was met; of the longest script, its length.
 pub type Met = BTreeMap<String, u64>;
 
 pub struct Verdict {
@@ -62,6 +62,7 @@ fn judge_trial(verdict: &mut Verdict, trial: &Trial, note: &Note, wanted: &mut &
         if let (Some(reading), Some(wanted)) = (reading, wanted) {
             let kinds = kinds_of_answer(trial.sheet, question, &wanted, reading);
             kinds.into_iter().for_each(|kind| verdict.meet(kind));
+            verdict.measure(question, &wanted);
         }
         verdict.answers += 1;
     }
@@ -96,6 +97,13 @@ impl Verdict {
 
     fn meet(&mut self, what: String) {
         *self.met.entry(what).or_insert(0) += 1;
+    }
+
+    fn measure(&mut self, question: Question, answer: &Answer) {
+        if let (Question::Script(_), 0) = (question, answer.refusal()) {
+            let longest = self.met.entry(LONGEST.to_string()).or_insert(0);
+            *longest = answer.low().max(*longest);
+        }
     }
 
     /// Tells that two say different things about a question of the trial.
@@ -144,7 +152,7 @@ fn next_note(note: &str) -> Note<'_> {
 }
 
 /// The next answer, if it is there whole.
-fn next_answer(rest: &mut &[u8], question: Question) -> Option<Answer> {
+pub fn next_answer(rest: &mut &[u8], question: Question) -> Option<Answer> {
     if rest.len() < 8 + question.room_bytes() {
         *rest = &[];
         return None;

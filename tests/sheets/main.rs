@@ -6,6 +6,8 @@
 //   sheets judge TRIALS NOTES WANTED GOT [MET]    compares; what was met is added to MET
 //   sheets alter WHAT TRIALS GOT ALTERED SEED     changes one bit of an answer or a room, and says which
 //   sheets met MET PART..                         fails if something that these parts require was never met
+//   sheets scripts TRIALS GOT FOLDER              writes the script of each trial to a file of its own
+//   sheets inputs SEED FOLDER                     writes inputs for the program, each to a file of its own
 
 mod accepted;
 mod alter;
@@ -20,6 +22,7 @@ mod edges;
 mod failing;
 mod few_cases;
 mod grower;
+mod inputs;
 mod judge;
 mod layout;
 mod met;
@@ -28,12 +31,19 @@ mod question;
 mod random;
 mod ranges;
 mod required;
+mod script_edges;
+mod script_questions;
+mod script_required;
+mod scripts;
+mod solver_sheets;
 mod trees;
 mod trial;
 mod variables;
 mod whole_sheet;
 
 use alter::What;
+use met::LONGEST;
+use question::Question;
 use random::Random;
 use std::collections::BTreeSet;
 use std::fs::{self, File, OpenOptions};
@@ -44,7 +54,7 @@ use trial::{Output, Part, PARTS};
 type Make = fn(&mut Random, &mut Output);
 
 /// The groups of each part; the first one of a part is small.
-const GROUPS: [(Part, &str, Make); 21] = [
+const GROUPS: [(Part, &str, Make); 29] = [
     (Part::Reading, "edge-cases", edges::make),
     (Part::Reading, "accepted", accepted::make),
     (Part::Reading, "refusal-1", whole_sheet::refusal_1),
@@ -66,6 +76,14 @@ const GROUPS: [(Part, &str, Make); 21] = [
     (Part::Cases, "cases-failing", failing::make),
     (Part::Cases, "cases-limits", case_limits::make),
     (Part::Cases, "cases-refused-sheets", refused_sheets),
+    (Part::Script, "script-edge-cases", script_edges::make),
+    (Part::Script, "script-any", scripts::any),
+    (Part::Script, "script-kinds", scripts::kinds),
+    (Part::Script, "script-numbers", scripts::numbers),
+    (Part::Script, "script-long", scripts::long),
+    (Part::Script, "script-many-cases", scripts::many_cases),
+    (Part::Script, "script-solvers", solver_sheets::make),
+    (Part::Script, "script-refused-sheets", refused_sheets),
 ];
 
 /// Sheets refused with 1 to 8, put to the calls of another part.
@@ -97,6 +115,8 @@ fn main() -> io::Result<()> {
         ["alter", "answer", trials, got, altered, seed] => alter(What::Answer, [trials, got, altered], seed)?,
         ["alter", "room", trials, got, altered, seed] => alter(What::Room, [trials, got, altered], seed)?,
         ["met", met, ref parts @ ..] => all_met(&fs::read_to_string(met)?, parts),
+        ["scripts", trials, got, folder] => scripts_to(&fs::read(trials)?, &fs::read(got)?, folder)?,
+        ["inputs", seed, folder] => inputs::write(number(seed), folder)?,
         _ => fail("usage: sheets groups | make | judge | alter | met; see the top of main.rs"),
     }
     Ok(())
@@ -159,6 +179,7 @@ fn alter(what: What, [trials, got, altered]: [&str; 3], seed: &str) -> io::Resul
 fn all_met(met: &str, parts: &[&str]) {
     let parts: Vec<Part> = parts.iter().map(|part| named_part(part)).collect();
     let required = required::of(&parts);
+    let longest = longest_script(met);
     let met: BTreeSet<String> =
         met.lines().filter_map(|line| line.split('\t').next()).map(str::to_string).collect();
     tell_first("never met", required.difference(&met));
@@ -167,6 +188,32 @@ fn all_met(met: &str, parts: &[&str]) {
         exit(1);
     }
     println!("{} classes of sheet and kinds of answer, all met", required.len());
+    if let Some(length) = longest {
+        println!("the longest script that was met has {} bytes", length);
+    }
+}
+
+/// The length of the longest script, if scripts were met.
+fn longest_script(met: &str) -> Option<u64> {
+    let lengths = met.lines().filter_map(|line| line.strip_prefix(LONGEST)?.trim().parse().ok());
+    lengths.max()
+}
+
+/// Writes the script of each trial that has one, under the trial's number.
+fn scripts_to(mut trials: &[u8], mut got: &[u8], folder: &str) -> io::Result<()> {
+    let mut number = 0;
+    while !trials.is_empty() {
+        for question in judge::next_trial(&mut trials).questions {
+            match (question, judge::next_answer(&mut got, question)) {
+                (Question::Script(_), Some(answer)) if answer.refusal() == 0 => {
+                    fs::write(format!("{}/{}.smt2", folder, number), &answer.room[..answer.low() as usize])?;
+                }
+                _ => {}
+            }
+        }
+        number += 1;
+    }
+    Ok(())
 }
 
 /// Tells the first few, and how many there are.

@@ -12,6 +12,7 @@ pub fn kinds_of_answer(sheet: &[u8], question: Question, answer: &Answer, readin
         Question::Block(k) => vec![kind_of_block(sheet, k, answer.said)],
         Question::Check(_) => kinds_of_check(sheet, answer),
         Question::Tally => kinds_of_tally(sheet, answer),
+        Question::Script(_) => kinds_of_script(sheet, answer),
     }
 }
 
@@ -117,4 +118,35 @@ fn kinds_of_tally(sheet: &[u8], answer: &Answer) -> Vec<String> {
         _ => "some cases",
     };
     vec![format!("tally: {}", counts), format!("tally: {}", count)]
+}
+
+/// The label under which the length of the longest script is told.
+pub const LONGEST: &str = "script: the longest, in bytes";
+
+fn kinds_of_script(sheet: &[u8], answer: &Answer) -> Vec<String> {
+    let (length, room) = (answer.low() as usize, answer.room.len());
+    match answer.refusal() {
+        0 => {
+            let room = match room {
+                _ if room == length => "just room",
+                _ if room == length + 1 => "room for one byte more",
+                4_096 => "room for 4,096 bytes",
+                _ => "room for more",
+            };
+            vec![
+                format!("script: written, V = {}", sheet[4]),
+                format!("script: written, {} blocks", sheet.len() / BLOCK),
+                format!("script: written, {}", room),
+            ]
+        }
+        9 => {
+            let room = match room {
+                0 => "no room",
+                _ if room + 1 == length => "one byte short",
+                _ => "less room",
+            };
+            vec![format!("script: 9, {}", room)]
+        }
+        _ => kinds_of_reading("script", sheet, answer),
+    }
 }

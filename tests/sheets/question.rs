@@ -25,6 +25,7 @@ pub enum Question {
     Block(u64),
     Check(Room),
     Tally,
+    Script(Room),
 }
 
 impl Question {
@@ -35,6 +36,7 @@ impl Question {
             Question::Block(k) => (3, k),
             Question::Check(room) => (4, room.number()),
             Question::Tally => (5, 0),
+            Question::Script(room) => (6, room.number()),
         }
     }
 
@@ -45,23 +47,25 @@ impl Question {
             3 => Question::Block(number),
             4 => Question::Check(Room::from(number)),
             5 => Question::Tally,
+            6 => Question::Script(Room::from(number)),
             _ => panic!("no question has subject {}", subject),
         }
     }
 
     /// The lent room's bytes as they are before the call; none are lent without a room.
     pub fn filled(self) -> Vec<u8> {
-        let (pattern, bytes) = match self {
-            Question::Check(room) => (room.pattern, 2 * room.length),
-            _ => (0, 0),
+        let pattern = match self {
+            Question::Check(room) | Question::Script(room) => room.pattern,
+            _ => 0,
         };
         let byte = |place: usize| pattern.wrapping_mul(2 * place as u32 + 1).to_be_bytes()[0];
-        (0..bytes).map(byte).collect()
+        (0..self.room_bytes()).map(byte).collect()
     }
 
     pub fn room_bytes(self) -> usize {
         match self {
             Question::Check(room) => 2 * room.length,
+            Question::Script(room) => room.length,
             _ => 0,
         }
     }
@@ -73,6 +77,7 @@ impl Question {
             Question::Block(k) => format!("block {}", k),
             Question::Check(room) => format!("check with room for {}", room.length),
             Question::Tally => "tally".to_string(),
+            Question::Script(room) => format!("script with room for {}", room.length),
         }
     }
 }
@@ -151,6 +156,7 @@ impl Answer {
             Question::Check(_) if self.low() == 0 => "holds".to_string(),
             Question::Check(_) if self.low() == 1 => "fails".to_string(),
             Question::Tally => format!("held {}, failed {}", self.low() >> 24, self.low() % (1 << 24)),
+            Question::Script(_) => format!("{} bytes", self.low()),
             _ => format!("{}", self.low()),
         }
     }

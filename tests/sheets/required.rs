@@ -2,6 +2,7 @@
 // own, apart from the code that makes the sheets: a class that is left out there is missed here.
 
 use crate::case_required;
+use crate::script_required;
 use crate::trial::Part;
 use std::collections::BTreeSet;
 
@@ -14,6 +15,7 @@ pub fn of(parts: &[Part]) -> BTreeSet<String> {
         match part {
             Part::Reading => of_reading(&mut all),
             Part::Cases => case_required::of_cases(&mut all),
+            Part::Script => script_required::of_script(&mut all),
         }
     }
     all.into_iter().collect()

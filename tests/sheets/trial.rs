@@ -4,6 +4,7 @@ use crate::case_questions;
 use crate::layout::BLOCK;
 use crate::question::{Known, Question};
 use crate::random::Random;
+use crate::script_questions;
 use std::fs::File;
 use std::io::{BufWriter, Write};
 
@@ -31,9 +32,11 @@ pub fn reading(expected: Expected) -> Option<u64> {
 pub enum Part {
     Reading,
     Cases,
+    Script,
 }
 
-pub const PARTS: [(&str, Part); 2] = [("reading", Part::Reading), ("cases", Part::Cases)];
+pub const PARTS: [(&str, Part); 3] =
+    [("reading", Part::Reading), ("cases", Part::Cases), ("script", Part::Script)];
 
 /// Block numbers whose place in bytes, or whose k + 1, leaves one width of number or another.
 pub const FAR_BLOCKS: [u64; 18] = [
@@ -80,6 +83,7 @@ impl Output {
         let questions = match self.part {
             Part::Reading => reading_questions(random, sheet, expected),
             Part::Cases => case_questions::any(random, sheet, expected),
+            Part::Script => script_questions::any(random, expected),
         };
         self.ask_all(label, sheet, &questions);
     }

@@ -1,10 +1,11 @@
 -- The worked check and the starred cases of document 01, "Cases at each edge": one table. A row is a whole sheet's bytes, what `read` answers and,
--- where they are named, what a node is found to be, what the check and the tally give.
+-- where they are named, what a node is found to be, what the check and the tally give and the script.
 use Prim.Native.Nat.{ℕ, _-_}
 use mathlib.Core.List.{List, [], _∷_, _++_, map}
 use mathlib.Core.Option.{Option, none, some}
 use lib.IntN.{ℤ, pos, negsuc}
 use lib.ListN.{length, replicate}
+use Rattle.lists.specs.Ascii.{ascii}
 use Rattle.numbers.specs.declared.Refusal.{Refusal}
 use Rattle.numbers.specs.Ranges.{_⋯_}
 use Rattle.meaning.specs.Cases.{firstFailure, held, failed}
@@ -13,6 +14,7 @@ use Rattle.findings.specs.declared.Finding.{Finding}
 use Rattle.findings.specs.declared.Finding.the-variants.{Integer}
 use Rattle.nodes.specs.Nodes.{findingAt}
 use Rattle.reading.specs.Cascade.{refusalOf}
+use Rattle.wording.specs.Script.{script}
 
 -- a block: its first bytes, zeros up to 510, and the stored check's two bytes
 abbrev pub block : List ℕ → ℕ → ℕ → List ℕ
@@ -27,6 +29,7 @@ pub record Row : Type 0 where
   pub answer : Option Refusal
   pub ranges : List (ℕ × Finding)
   pub trials : List Trial
+  pub scripts : List (List ℕ)
 
 -- the worked check: byte 0 is 1, byte 509 is 255 and the rest zero, stored 13 FC; the check is right, so what is wrong is N
 abbrev pub worked : Row
@@ -35,9 +38,10 @@ worked = record {
   answer = some (record { number = 4; place = 0 });
   ranges = [];
   trials = [];
+  scripts = [];
 }
 
--- 1: sheet A, 4 cases, first failure (0, 1), held 2, failed 2
+-- 1: sheet A, 4 cases, first failure (0, 1), held 2, failed 2; its script
 abbrev pub case1 : Row
 case1 = record {
   sheet =
@@ -46,6 +50,7 @@ case1 = record {
   answer = none;
   ranges = [];
   trials = (some (pos 0 ∷ pos 1 ∷ []), 2, 2) ∷ [];
+  scripts = (ascii "(set-logic QF_UFBV)\n(declare-fun v0 () (_ BitVec 16))\n(declare-fun v1 () (_ BitVec 16))\n(assert (and (bvsle #x0000 v0) (bvsle v0 #x0001)))\n(assert (and (bvsle #x0000 v1) (bvsle v1 #x0001)))\n(assert (not (= v0 v1)))\n(check-sat)\n(exit)\n") ∷ [];
 }
 
 -- 2: no variables, goal true: holds, held 1
@@ -57,6 +62,7 @@ case2 = record {
   answer = none;
   ranges = [];
   trials = (none, 1, 0) ∷ [];
+  scripts = [];
 }
 
 -- 3: goal false: fails, failed 1
@@ -68,6 +74,31 @@ case3 = record {
   answer = none;
   ranges = [];
   trials = (some [], 0, 1) ∷ [];
+  scripts = [];
+}
+
+-- 5: constant -1 writes `#xffff`
+abbrev pub case5 : Row
+case5 = record {
+  sheet =
+      block (1 ∷ 0 ∷ 3 ∷ []) 11 0
+      ++ block (16 ∷ 0 ∷ 0 ∷ 0 ∷ 0 ∷ 0 ∷ 0 ∷ 0 ∷ 255 ∷ 255 ∷ 0 ∷ 0 ∷ 0 ∷ 0 ∷ 0 ∷ 0 ∷ 16 ∷ 0 ∷ 0 ∷ 0 ∷ 0 ∷ 0 ∷ 0 ∷ 0 ∷ 255 ∷ 255 ∷ 0 ∷ 0 ∷ 0 ∷ 0 ∷ 0 ∷ 0 ∷ 8 ∷ 0 ∷ 0 ∷ 0 ∷ 1 ∷ []) 9 72;
+  answer = none;
+  ranges = [];
+  trials = [];
+  scripts = (ascii "(set-logic QF_UFBV)\n(assert (not (= #xffff #xffff)))\n(check-sat)\n(exit)\n") ∷ [];
+}
+
+-- 6: constant -32,768 writes `#x8000`
+abbrev pub case6 : Row
+case6 = record {
+  sheet =
+      block (1 ∷ 0 ∷ 3 ∷ []) 11 0
+      ++ block (16 ∷ 0 ∷ 0 ∷ 0 ∷ 0 ∷ 0 ∷ 0 ∷ 0 ∷ 0 ∷ 128 ∷ 0 ∷ 0 ∷ 0 ∷ 0 ∷ 0 ∷ 0 ∷ 16 ∷ 0 ∷ 0 ∷ 0 ∷ 0 ∷ 0 ∷ 0 ∷ 0 ∷ 0 ∷ 128 ∷ 0 ∷ 0 ∷ 0 ∷ 0 ∷ 0 ∷ 0 ∷ 8 ∷ 0 ∷ 0 ∷ 0 ∷ 1 ∷ []) 79 20;
+  answer = none;
+  ranges = [];
+  trials = [];
+  scripts = (ascii "(set-logic QF_UFBV)\n(assert (not (= #x8000 #x8000)))\n(check-sat)\n(exit)\n") ∷ [];
 }
 
 -- 7: 16,384 + 16,383 passes
@@ -79,6 +110,7 @@ case7 = record {
   answer = none;
   ranges = (2, Integer (pos 32767 ⋯ pos 32767)) ∷ [];
   trials = [];
+  scripts = [];
 }
 
 -- 8: 16,384 + 16,384 gives 8
@@ -90,6 +122,7 @@ case8 = record {
   answer = some (record { number = 8; place = 2 });
   ranges = [];
   trials = [];
+  scripts = [];
 }
 
 -- 9: minus of -32,767..0 is 0..32,767
@@ -101,6 +134,7 @@ case9 = record {
   answer = none;
   ranges = (0, Integer (negsuc 32766 ⋯ pos 0)) ∷ (1, Integer (pos 0 ⋯ pos 32767)) ∷ [];
   trials = [];
+  scripts = [];
 }
 
 -- 10: minus of -32,768..0 gives 8
@@ -112,6 +146,7 @@ case10 = record {
   answer = some (record { number = 8; place = 1 });
   ranges = [];
   trials = [];
+  scripts = [];
 }
 
 -- 11: -3..2 times -4..5 has range -15..12
@@ -123,18 +158,20 @@ case11 = record {
   answer = none;
   ranges = (2, Integer (negsuc 14 ⋯ pos 12)) ∷ [];
   trials = [];
+  scripts = [];
 }
 
 abbrev pub table : List Row
-table = worked ∷ case1 ∷ case2 ∷ case3 ∷ case7 ∷ case8 ∷ case9 ∷ case10 ∷ case11 ∷ []
+table = worked ∷ case1 ∷ case2 ∷ case3 ∷ case5 ∷ case6 ∷ case7 ∷ case8 ∷ case9 ∷ case10 ∷ case11 ∷ []
 
 -- what the definitions give of a row, and what the row says
-abbrev pub run : Row → Option Refusal × List (ℕ × Finding) × List Trial
+abbrev pub run : Row → Option Refusal × List (ℕ × Finding) × List Trial × List (List ℕ)
 run r = (
   refusalOf (r .sheet),
   map (λ (p : ℕ × Finding). (p .0, findingAt (r .sheet) (p .0))) (r .ranges),
   map (λ (t : Trial). (firstFailure (ruleIn (r .sheet)), held (ruleIn (r .sheet)), failed (ruleIn (r .sheet)))) (r .trials),
+  map (λ (t : List ℕ). script (ruleIn (r .sheet))) (r .scripts),
 )
 
-abbrev pub told : Row → Option Refusal × List (ℕ × Finding) × List Trial
-told r = (r .answer, r .ranges, r .trials)
+abbrev pub told : Row → Option Refusal × List (ℕ × Finding) × List Trial × List (List ℕ)
+told r = (r .answer, r .ranges, r .trials, r .scripts)

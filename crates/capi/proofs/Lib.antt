@@ -1,2 +1,3 @@
 pub mod CodeLaws
 pub mod CaseCodes
+pub mod WrittenCodes

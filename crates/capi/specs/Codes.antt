@@ -14,6 +14,8 @@ use Rattle.blocks.specs.Block.{blockGiven}
 use Rattle.reading.specs.Cascade.{refusalOf}
 use Rattle.reading.specs.Name.{nameGiven}
 use Rattle.cases.specs.Checks.{tryRefusal, checkRefusal, verdict, roomAfter}
+use Rattle.wording.specs.Script.{script}
+use Rattle.writer.specs.Writes.{scriptRefusal, verdict as written, roomAfter as scriptRoom}
 
 -- high 16 bits the refusal's number, low 48 bits its place; 0 where the sheet is accepted
 abbrev pub refusalCode : Option Refusal → ℕ
@@ -51,3 +53,16 @@ tallyBy (some r) h f = refusalCode (some r)
 
 abbrev pub tallyCode : List ℕ → ℕ
 tallyCode s = tallyBy (tryRefusal s) (held (ruleIn s)) (failed (ruleIn s))
+
+-- ---- the script: the refusal, or the bytes written
+abbrev pub writtenBy : Option Refusal → ℕ → ℕ
+writtenBy none n = n
+writtenBy (some r) n = refusalCode (some r)
+
+abbrev pub writtenCode : Option Refusal × ℕ → ℕ
+writtenCode v = writtenBy (v .0) (v .1)
+
+-- the code, and the room as `write_script` leaves it
+pub record ScriptCodes (s before : List ℕ) (r : ℕ) (after : List ℕ) : Type 0 where
+  pub code : r ≡ writtenCode (written (scriptRefusal s (length before)) (script (ruleIn s)))
+  pub room : after ≡ scriptRoom (scriptRefusal s (length before)) (script (ruleIn s)) before

@@ -2,11 +2,12 @@
 ghost use mathlib.Core.Path.{_≡_};
 ghost use mathlib.Core.Option.{some};
 ghost use Prim.Native.Nat.{_<_, _^_};
-ghost use Rattle.capi.specs.Codes.{readCode, nameCode, blockCode, refusalCode, CheckCodes, tallyCode};
+ghost use Rattle.capi.specs.Codes.{readCode, nameCode, blockCode, refusalCode, CheckCodes, tallyCode, ScriptCodes};
 use cases::Checked;
 use numbers::Refusal;
 use numbers::VariableNumber;
 use refusals::Reading;
+use writer::Written;
 
 const NUMBER: u64 = 281474976710656;
 
@@ -73,5 +74,16 @@ pub extern "C" fn ragwashin_tally(sheet: &[u8]) -> u64
     match reading {
         Reading::Accepted => tally.held as u64 * COUNT + tally.failed as u64,
         Reading::Refused(refusal) => refusal_code(refusal),
+    }
+}
+
+#[no_mangle]
+pub extern "C" fn ragwashin_script(sheet: &[u8], room: &mut [u8]) -> u64
+    ensures { λ r. ⌜ ScriptCodes (now (sheet .entry)) (now (room .entry)) r (now (room .exit)) ⌝ }
+{
+    let written = writer::write_script(sheet, room);
+    match written {
+        Written::Script(size) => size as u64,
+        Written::Refused(refusal) => refusal_code(refusal),
     }
 }

@@ -3,3 +3,4 @@ pub mod Run
 pub mod Course
 pub mod First
 pub mod Part
+pub mod Ascii

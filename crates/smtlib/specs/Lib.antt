@@ -1,0 +1,11 @@
+pub mod Characters
+pub mod Tokens
+pub mod Sexps
+pub mod BitVectors
+pub mod Values
+pub mod Theory
+pub mod Terms
+pub mod Commands
+pub mod Settings
+pub mod Scripts
+pub mod Satisfaction

@@ -1,0 +1,11 @@
+pub mod Sexps
+pub mod Spelt
+pub mod Read
+pub mod Injective
+pub mod Worked
+pub mod MeansTrees
+pub mod Means
+pub mod MeansSettings
+pub mod MeansClaims
+pub mod MeansMatch
+pub mod MeansSixteen

@@ -1,0 +1,55 @@
+-- The settings that meet the script are the failing cases in two's complement, one to one, at any width that holds the rule. Assumes nothing.
+use mathlib.Core.Path.{_≡_, refl, subst}
+use mathlib.Core.Logic.{_↔_}
+use mathlib.Core.List.{List, map}
+use Prim.Native.Nat.{ℕ, _≤_}
+use native.Mathlib.Omega.{arith}
+use lib.ListN.{length}
+use lib.IntN.{ℤ}
+use Rattle.numbers.specs.declared.Range.{Range}
+use Rattle.numbers.specs.Two.{enc, Within}
+use Rattle.numbers.specs.Ranges.{In}
+use Rattle.numbers.proofs.Zed.{zed}
+use Rattle.meaning.specs.Rule.{Rule, Case}
+use Rattle.smtlib.specs.Tokens.{Atom}
+use Rattle.smtlib.specs.Terms.{numberOf}
+use Rattle.smtlib.specs.Satisfaction.{Meets}
+use Rattle.wording.proofs.Sexps.{asked}
+use Rattle.wording.proofs.Read.{Texts}
+use Rattle.wording.proofs.MeansSettings.{Integers, encs-inj, fits-exactly, holding}
+use Rattle.wording.proofs.MeansClaims.{Held, Fails, claims-exactly}
+
+in-within : {w : ℕ} {d : Range} {x : ℤ} → Within w (d .low) → Within w (d .high) → In d x → Within w x
+in-within f g m = omega zed
+
+-- a case's values are integers of w bits
+pub case-integers : {w : ℕ} {r : Rule} {c : List ℤ} → Held w r → Case r c → Integers w (length (r .variables)) c
+case-integers h k = record { all = k .all; each = λ i l. in-within (h .low i (omega (arith, k .all))) (h .high i (omega (arith, k .all))) (k .each i l) }
+
+-- no two cases have the same setting
+pub one-case : {w : ℕ} {r : Rule} {b c : List ℤ} → 1 ≤ w → Held w r → Case r b → Case r c → map (enc w) b ≡ map (enc w) c → b ≡ c
+one-case one h p q e = encs-inj one (case-integers h p) (case-integers h q) e
+
+module _ {constant : ℤ → Atom} {name : ℕ → List ℕ} {width : List ℕ} {m : ℕ} (texts : Texts constant name width m)
+    {r : Rule} (few : length (r .variables) ≤ m) (h : Held (numberOf 10 width) r) where
+  -- the width
+  abbrev w : ℕ
+  w = numberOf 10 width
+
+  -- integers of w bits meet the script exactly where they are a failing case
+  pub integers-meet : {c : List ℤ} → Integers w (length (r .variables)) c → Meets (asked constant name w r) (map (enc w) c) ↔ Fails r c
+  integers-meet {c} k =
+      let claims = claims-exactly (texts .some-bits) h k (holding texts (r .variables) few c (k .all)) in
+      (λ m. claims .0 (m .holds), λ f. record { fits = fits-exactly constant name w (texts .some-bits) (r .variables) _ .1 (c, k, refl); holds = claims .1 f })
+
+  -- a setting meets the script exactly where it is a failing case's
+  pub meets-exactly : (s : List ℕ) → Meets (asked constant name w r) s ↔ ((c : List ℤ) × Fails r c × (map (enc w) c ≡ s))
+  meets-exactly s = (to, from)
+    where
+      to : Meets (asked constant name w r) s → (c : List ℤ) × Fails r c × (map (enc w) c ≡ s)
+      to m =
+          let p = fits-exactly constant name w (texts .some-bits) (r .variables) s .0 (m .fits) in
+          (p .0, integers-meet (p .1) .0 (rw (p .2) m), p .2)
+
+      from : (c : List ℤ) × Fails r c × (map (enc w) c ≡ s) → Meets (asked constant name w r) s
+      from p = subst (Meets (asked constant name w r)) (p .2) (integers-meet (case-integers h (p .1 .case)) .1 (p .1))

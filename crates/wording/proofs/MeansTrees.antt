@@ -1,0 +1,73 @@
+-- What is asked of each tree in a tree so that its s-expression means what the tree does, and laws of such claims. Assumes nothing.
+use mathlib.Core.Path.{_≡_, subst}
+use Prim.Native.Nat.{ℕ, _<_}
+use lib.IntN.{ℤ}
+use Rattle.numbers.specs.Two.{Within}
+use Rattle.meaning.specs.declared.Sort.{Sort}
+use Rattle.meaning.specs.declared.Sort.the-variants.{Truth, Integer}
+use Rattle.meaning.specs.Tree.{Tree, var}
+use Rattle.meaning.specs.Value.{value}
+use Rattle.kinds.specs.declared.Shape.{Shape}
+use Rattle.kinds.specs.declared.Shape.the-variants.{Wrong, Bare, Valued, Named, One, Two, Three}
+use Rattle.kinds.specs.Kinds.{row}
+use Rattle.kinds.specs.Rows.{Args, Each, by-rows, eachOf, together, Throughout}
+use Rattle.kinds.proofs.RowLaws.{throughout-make}
+use Rattle.layout.specs.WellFormed.{Fine}
+use Rattle.layout.proofs.Made.{FineMade, fine-make}
+
+-- where variable i has the value ρ i, an integer is one of w bits: no operator wraps
+abbrev pub NoWrap : ℕ → (ℕ → ℤ) → (s : Sort) → Tree s → Type 0
+NoWrap w ρ Truth t = Unit {0}
+NoWrap w ρ Integer t = Within w (value ρ t)
+
+-- a variable is one of the first v
+abbrev pub Below : ℕ → (s : Sort) → Tree s → Type 0
+Below v Truth t = Unit {0}
+Below v Integer t = (i : ℕ) → t ≡ var i → i < v
+
+-- ---- claims throughout a tree
+
+-- such a claim holds of the tree itself
+pub own : (Q : (s : Sort) → Tree s → Type 0) {s : Sort} (t : Tree s) → Throughout Q t → Q s t
+own Q t = by-rows (λ s u. Throughout Q u → Q s u) (λ k q x y h. (rw (throughout-make Q k q x) at h) .0) t
+
+-- throughout each operand
+abbrev Parts : ((s : Sort) → Tree s → Type 0) → (h : Shape) → Args h → Type 0
+Parts Q h x = together h x (eachOf (λ s t. Type 0) (λ s t. Throughout Q t) h x)
+
+-- what follows at each tree follows throughout
+module _ (P Q : (s : Sort) → Tree s → Type 0) (m : (s : Sort) (t : Tree s) → P s t → Q s t) where
+  parts-follow : (h : Shape) (x : Args h) → Each (λ s u. Throughout P u → Throughout Q u) h x → Parts P h x → Parts Q h x
+  parts-follow Wrong x y p = tt
+  parts-follow Bare x y p = tt
+  parts-follow Valued x y p = tt
+  parts-follow Named x y p = tt
+  parts-follow (One s) x y p = y p
+  parts-follow (Two s t) x y p = (y .0 (p .0), y .1 (p .1))
+  parts-follow (Three s t u) x y p = (y .0 (p .0), y .1 (p .1), y .2 (p .2))
+
+  pub follows : {s : Sort} (t : Tree s) → Throughout P t → Throughout Q t
+  follows t =
+      by-rows (λ s u. Throughout P u → Throughout Q u)
+      (λ k q x y h. let p = rw (throughout-make P k q x) at h in rw (throughout-make Q k q x) (m (row k .gives) _ (p .0), parts-follow (row k .shape) x y (p .1))) t
+
+-- ---- in a tree that has a place in a sheet of v variables, each variable is one of them
+module _ (v : ℕ) where
+  below-of : (s : Sort) (t : Tree s) → Fine v t → Below v s t
+  unfolding Fine by-rows
+  below-of Truth t f = tt
+  below-of Integer t f = λ i e. subst (λ (u : Tree Integer). Fine v u) e f
+
+  parts-below : (h : Shape) (x : Args h) → Each (λ s u. Fine v u → Throughout (Below v) u) h x → FineMade v h x → Parts (Below v) h x
+  parts-below Wrong x y f = tt
+  parts-below Bare x y f = tt
+  parts-below Valued x y f = tt
+  parts-below Named x y f = tt
+  parts-below (One s) x y f = y f
+  parts-below (Two s t) x y f = (y .0 (f .0), y .1 (f .1))
+  parts-below (Three s t u) x y f = (y .0 (f .0), y .1 (f .1), y .2 (f .2))
+
+  pub fine-below : {s : Sort} (t : Tree s) → Fine v t → Throughout (Below v) t
+  fine-below t =
+      by-rows (λ s u. Fine v u → Throughout (Below v) u)
+      (λ k q x y f. rw (throughout-make (Below v) k q x) (below-of (row k .gives) _ f, parts-below (row k .shape) x y (rw (fine-make k q x v) at f))) t

@@ -1,0 +1,320 @@
+-- SMT-LIB accepts the script of a well-formed rule, as its declarations, its ranges and its negated goal. Assumes nothing.
+use Prim.Native.Nat.{ℕ, zero, suc, _+_, _-_, _*_, _/_, _%_, _≤_, _<_}
+use mathlib.Core.Path.{_≡_, refl, sym, ap, _∙_}
+use mathlib.Core.Bool.{Bool, true, false}
+use mathlib.Core.Logic.{_↔_}
+use mathlib.Core.List.{List, [], _∷_, _++_, map, append-assoc, append-nil}
+use mathlib.Core.Option.{none, some}
+use native.Mathlib.Omega.{arith}
+use lib.Dec.{eqb, lit≤}
+use lib.IntN.{ℤ}
+use lib.ListN.{length, getD}
+use borrow.Author.Tests.{eqb-true}
+use Rattle.lists.specs.Ascii.{ascii}
+use Rattle.lists.specs.Places.{allBelow}
+use Rattle.lists.proofs.TestLaws.{all-true}
+use Rattle.numbers.specs.declared.Range.{Range}
+use Rattle.numbers.specs.Two.{enc}
+use Rattle.numbers.proofs.Bytes16.{enc16-lt}
+use Rattle.meaning.specs.declared.Sort.{Sort}
+use Rattle.meaning.specs.declared.Sort.the-variants.{Truth, Integer}
+use Rattle.meaning.specs.Tree.{Tree, tru, fls, neg, conj, disj, implies, iff, equal, less, atMost, const, var, minus, sum, difference, product, ite}
+use Rattle.meaning.specs.Rule.{Variable, Rule, noVariable}
+use Rattle.kinds.specs.declared.Kind.{Kind}
+use Rattle.kinds.specs.declared.Kind.the-variants.{Unknown, True, False, Not, And, Or, Implies, Iff, Equal, Less, AtMost, Constant, Variable as VariableKind, Minus, Sum, Difference, Product, If}
+use Rattle.kinds.specs.declared.Shape.{Shape}
+use Rattle.kinds.specs.declared.Shape.the-variants.{Wrong, Bare, Valued, Named, One, Two, Three}
+use Rattle.kinds.specs.Kinds.{row}
+use Rattle.kinds.specs.Rows.{Args, make, Known, Each, by-rows}
+use Rattle.layout.specs.Fold.{Found, ofTree}
+use Rattle.layout.specs.WellFormed.{FineVariable, Fine, WellFormed}
+use Rattle.layout.proofs.Made.{FineMade, foundMade, fine-make, found-make}
+use Rattle.smtlib.specs.Tokens.{Atom, symbol, same}
+use Rattle.smtlib.specs.Sexps.{Sexp, atom}
+use Rattle.smtlib.specs.Values.{Sort as SmtSort, bool, bitVec, Val, bits, sorted}
+use Rattle.smtlib.specs.Theory.{functions, otherNames, function, theoryName}
+use Rattle.smtlib.specs.Terms.{Environment, numberOf, value}
+use Rattle.smtlib.specs.Commands.{Declaration, declareFun, logics, commandOf}
+use Rattle.smtlib.specs.Settings.{environment, zeros}
+use Rattle.smtlib.specs.Scripts.{solverName, isDeclared, formula, gather, scriptIn}
+use Rattle.smtlib.specs.Satisfaction.{andThen, scriptOf, Meets, Satisfies}
+use Rattle.smtlib.proofs.NameLaws.{same-is, same-self, stands-here, stands-later}
+use Rattle.smtlib.proofs.TermLaws.{call1, call2, call3, value-symbol, value-hexadecimal, value-constant, value-truths1, value-vectors1, value-left, value-right, value-relation, value-vectors2, value-order, value-choice}
+use Rattle.smtlib.proofs.CommandLaws.{logic-read, declare-read, assert-read, check-read, exit-read, vector-read, begins, declares-next, asserts-next, asks-next, exits, declared-append, fresh-name}
+use Rattle.smtlib.proofs.SatisfactionLaws.{satisfies-read}
+use Rattle.wording.specs.Words.{wordOf}
+use Rattle.wording.specs.Sixteen.{symbolText}
+use Rattle.wording.specs.Script.{claims, script}
+use Rattle.wording.proofs.Sexps.{sexpStep, sexp, declareSexp, declareChain, assertChain, chainOf, declares, asked, hexDigits, constant16, width16, asked16}
+use Rattle.wording.proofs.Spelt.{script-sexps}
+
+-- ---- the claims are as fine as the rule
+abbrev pub AllFine : ℕ → List (Tree Truth) → Type 0
+AllFine v [] = Unit {0}
+AllFine v (t ∷ ts) = Fine v t × AllFine v ts
+
+pub claims-fine : (r : Rule) → WellFormed r → AllFine (length (r .variables)) (claims 0 (r .variables) (r .goal))
+unfolding Fine by-rows
+claims-fine r f = from 0 (r .variables) (omega arith) (f .variables)
+  where
+    from : (i : ℕ) (vs : List Variable) → i + length vs ≤ length (r .variables) → ((j : ℕ) → j < length vs → FineVariable (getD vs j noVariable)) → AllFine (length (r .variables)) (claims i vs (r .goal))
+    from i [] h e = (f .goal, tt)
+    from i (v ∷ vs) h e =
+        let b : i < length (r .variables) = omega arith in
+        let n = e 0 (omega arith) .ends in
+        (((n .low, b), (b, n .high)), from (suc i) vs (omega arith) (λ j l. e (suc j) (omega arith)))
+
+-- ---- a term's sort
+
+-- Bool for a truth value, and bit vectors of one width for integers
+abbrev pub sortFor : ℕ → Sort → SmtSort
+sortFor w Truth = bool
+sortFor w Integer = bitVec w
+
+-- the term is accepted, and has this sort
+pub record Has (env : Environment) (s : SmtSort) (e : Sexp) : Type 0 where
+  pub known : Val s
+  pub is : value env e ≡ sorted s known
+
+module _ (constant : ℤ → Atom) (name : ℕ → List ℕ) (w v : ℕ) (env : Environment)
+    (constants : (z : ℤ) → Has env (bitVec w) (atom (constant z))) (symbols : (i : ℕ) → i < v → Has env (bitVec w) (atom (symbol (name i)))) where
+  abbrev Operands : (h : Shape) → Found Sexp h → Type 0
+  Operands Wrong x = ⊥
+  Operands Bare x = Unit {0}
+  Operands Valued x = Unit {0}
+  Operands Named x = x < v
+  Operands (One s) x = Has env (sortFor w s) x
+  Operands (Two s t) x = Has env (sortFor w s) (x .0) × Has env (sortFor w t) (x .1)
+  Operands (Three s t u) x = Has env (sortFor w s) (x .0) × Has env (sortFor w t) (x .1) × Has env (sortFor w u) (x .2)
+
+  -- each word's function takes and gives what the kind's row says
+  kind-sorted : (k : Kind) (x : Found Sexp (row k .shape)) → Operands (row k .shape) x → Has env (sortFor w (row k .gives)) (sexpStep constant name k x)
+  unfolding wordOf function functions
+  kind-sorted Unknown x h = absurd h
+  kind-sorted True x h = record { known = _; is = value-constant env _ refl }
+  kind-sorted False x h = record { known = _; is = value-constant env _ refl }
+  kind-sorted Not x h = record { known = _; is = value-truths1 env _ refl x (h .is) }
+  kind-sorted And x h = record { known = _; is = value-left env _ _ _ refl (h .0 .is) (h .1 .is) }
+  kind-sorted Or x h = record { known = _; is = value-left env _ _ _ refl (h .0 .is) (h .1 .is) }
+  kind-sorted Implies x h = record { known = _; is = value-right env _ _ _ refl (h .0 .is) (h .1 .is) }
+  kind-sorted Iff x h = record { known = _; is = value-relation env _ _ _ refl bool _ _ (h .0 .is) (h .1 .is) }
+  kind-sorted Equal x h = record { known = _; is = value-relation env _ _ _ refl (bitVec w) _ _ (h .0 .is) (h .1 .is) }
+  kind-sorted Less x h = record { known = _; is = value-order env _ _ _ refl (h .0 .is) (h .1 .is) }
+  kind-sorted AtMost x h = record { known = _; is = value-order env _ _ _ refl (h .0 .is) (h .1 .is) }
+  kind-sorted Constant x h = constants x
+  kind-sorted VariableKind x h = symbols x h
+  kind-sorted Minus x h = record { known = _; is = value-vectors1 env _ refl x (h .is) }
+  kind-sorted Sum x h = record { known = _; is = value-vectors2 env _ _ _ refl (h .0 .is) (h .1 .is) }
+  kind-sorted Difference x h = record { known = _; is = value-vectors2 env _ _ _ refl (h .0 .is) (h .1 .is) }
+  kind-sorted Product x h = record { known = _; is = value-vectors2 env _ _ _ refl (h .0 .is) (h .1 .is) }
+  kind-sorted If x h = record { known = _; is = value-choice env _ _ _ refl _ (bitVec w) _ _ (h .0 .is) (h .1 .is) (h .2 .is) }
+
+  abbrev SortedTree : (s : Sort) → Tree s → Type 0
+  SortedTree s t = Fine v t → Has env (sortFor w s) (sexp constant name t)
+
+  operands : (h : Shape) (x : Args h) → Known h → Each SortedTree h x → FineMade v h x → Operands h (foundMade (sexpStep constant name) h x)
+  operands Wrong x q e f = q
+  operands Bare x q e f = tt
+  operands Valued x q e f = tt
+  operands Named x q e f = f
+  operands (One s) x q e f = e f
+  operands (Two s t) x q e f = (e .0 (f .0), e .1 (f .1))
+  operands (Three s t u) x q e f = (e .0 (f .0), e .1 (f .1), e .2 (f .2))
+
+  pub tree-sorted : {s : Sort} (t : Tree s) → Fine v t → Has env (sortFor w s) (sexp constant name t)
+  tree-sorted t f = by-rows SortedTree step t f
+    where
+      step : (k : Kind) → Known (row k .shape) → (x : Args (row k .shape)) → Each SortedTree (row k .shape) x → SortedTree (row k .gives) (make k x)
+      step k q x e f = rw (found-make k q x (sexpStep constant name)) (kind-sorted k _ (operands (row k .shape) x q e (rw (fine-make k q x v) at f)))
+
+-- ---- the script's commands, for up to m variables
+
+-- what the texts of constants, of variables and of the width must be
+pub record Texts (constant : ℤ → Atom) (name : ℕ → List ℕ) (width : List ℕ) (m : ℕ) : Type 0 where
+  pub some-bits : 1 ≤ numberOf 10 width
+  -- a constant is read in two's complement
+  pub constants : (env : Environment) (z : ℤ) → value env (atom (constant z)) ≡ bits (numberOf 10 width) (enc (numberOf 10 width) z)
+  -- a name is none of a theory's and none that is left to solvers, and no two are the same
+  pub free : (i : ℕ) → function (name i) ≡ none
+  pub theory : (i : ℕ) → theoryName (name i) ≡ false
+  pub solver : (i : ℕ) → solverName (name i) ≡ false
+  pub distinct : (i j : ℕ) → i < m → j < m → name i ≡ name j → i ≡ j
+
+module _ (constant : ℤ → Atom) (name : ℕ → List ℕ) (width : List ℕ) (m : ℕ) (texts : Texts constant name width m) where
+  abbrev size : ℕ
+  size = numberOf 10 width
+
+  abbrev declaredAt : ℕ → Declaration
+  declaredAt i = record { name = name i; sort = bitVec size }
+
+  apart : {i j : ℕ} → i < j → j < m → same (name i) (name j) ≡ false
+  apart {i} {j} l h = by (same (name i) (name j)) refl
+    where
+      by : (b : Bool) → same (name i) (name j) ≡ b → b ≡ false
+      by false e = refl
+      by true e =
+          let d : i ≡ j = texts .distinct i j (omega arith) h (same-is (name i) (name j) e) in
+          absurd (omega arith)
+
+  stands-from : (i : ℕ) (vs : List Variable) (s : List ℕ) (j k : ℕ) → k ≡ i + j → i + length vs ≤ m → length s ≡ length vs → j < length vs
+      → environment (declares constant name size i vs) s (name k) ≡ bits size (getD s j 0)
+  stands-from i [] s j k e b l h = absurd (omega arith)
+  stands-from i (v ∷ vs) [] j k e b l h = absurd (omega arith)
+  stands-from i (v ∷ vs) (n ∷ s) zero k e b l h =
+      let d : k ≡ i = omega arith in
+      stands-here (declaredAt i) (declares constant name size (suc i) vs) n s (name k) (rw d (same-self (name i)))
+  stands-from i (v ∷ vs) (n ∷ s) (suc j) k e b l h =
+      stands-later (declaredAt i) (declares constant name size (suc i) vs) n s (name k) (apart (omega arith) (omega arith))
+      ∙ stands-from (suc i) vs s j k (omega arith) (omega arith) (omega arith) (omega arith)
+
+  -- the symbol of variable i stands for number i of the setting
+  pub symbol-stands : (vs : List Variable) → length vs ≤ m → (s : List ℕ) → length s ≡ length vs → (i : ℕ) → i < length vs → environment (declares constant name size 0 vs) s (name i) ≡ bits size (getD s i 0)
+  symbol-stands vs few s l i h = stands-from 0 vs s i i (omega arith) (omega arith) l h
+
+  -- ---- declarations
+  declare-is : (i : ℕ) → commandOf (declareSexp constant name width i) ≡ declareFun (declaredAt i)
+  declare-is i = declare-read (name i) _ (vector-read width (texts .some-bits))
+
+  -- no name from number i on is declared
+  abbrev Free : List Declaration → ℕ → Type 0
+  Free ds i = (j : ℕ) → i ≤ j → j < m → isDeclared ds (name j) ≡ false
+
+  free-next : (ds : List Declaration) (i : ℕ) → Free ds i → Free (ds ++ (declaredAt i ∷ [])) (suc i)
+  free-next ds i f j l h = declared-append ds (declaredAt i ∷ []) (name j) ∙ rw (f j (omega arith) h, apart l h)
+
+  all-declared : (ds : List Declaration) (i : ℕ) (vs : List Variable) (s : Sexp) → Free ds i → i + length vs ≤ m
+      → gather ds [] false (declareChain constant name width i vs s) ≡ gather (ds ++ declares constant name size i vs) [] false s
+  all-declared ds i [] s f h = rw append-nil
+  all-declared ds i (v ∷ vs) s f h =
+      declares-next ds [] false _ _ (declare-is i) (fresh-name ds (name i) (texts .theory i) (texts .solver i) (f i (omega arith) (omega arith)))
+      ∙ all-declared (ds ++ (declaredAt i ∷ [])) (suc i) vs s (free-next ds i f) (omega arith)
+      ∙ ap (λ (l : List Declaration). gather l [] false s) (append-assoc ds (declaredAt i ∷ []) (declares constant name size (suc i) vs))
+
+  -- ---- assertions
+  zeros-length : (i : ℕ) (vs : List Variable) → length (zeros (declares constant name size i vs)) ≡ length vs
+  zeros-length i [] = refl
+  zeros-length i (v ∷ vs) = ap suc (zeros-length (suc i) vs)
+
+  module _ (vs : List Variable) (few : length vs ≤ m) where
+    abbrev ds : List Declaration
+    ds = declares constant name size 0 vs
+
+    -- in any setting, a tree's term has the sort of the tree
+    pub setting-sorted : (s : List ℕ) → length s ≡ length vs → {k : Sort} (t : Tree k) → Fine (length vs) t → Has (environment ds s) (sortFor size k) (sexp constant name t)
+    setting-sorted s l t f =
+        tree-sorted constant name size (length vs) (environment ds s) (λ z. record { known = _; is = texts .constants (environment ds s) z })
+        (λ i h. record { known = _; is = value-symbol (environment ds s) (name i) (texts .free i) ∙ symbol-stands vs few s l i h }) t f
+
+    is-formula : (t : Tree Truth) → Fine (length vs) t → formula ds (sexp constant name t) ≡ true
+    unfolding formula
+    is-formula t f = rw (setting-sorted (zeros ds) (zeros-length 0 vs) t f .is)
+
+    all-asserted : (es : List Sexp) (ts : List (Tree Truth)) (s : Sexp) → AllFine (length vs) ts
+        → gather ds es false (assertChain constant name width ts s) ≡ gather ds (es ++ map (λ (t : Tree Truth). sexp constant name t) ts) false s
+    all-asserted es [] s f = rw append-nil
+    all-asserted es (t ∷ ts) s f =
+        asserts-next ds es false _ _ (assert-read (sexp constant name t)) (is-formula t (f .0))
+        ∙ all-asserted (es ++ (sexp constant name t ∷ [])) ts s (f .1)
+        ∙ ap (λ (l : List Sexp). gather ds l false s) (append-assoc es (sexp constant name t ∷ []) (map (λ (t : Tree Truth). sexp constant name t) ts))
+
+  -- ---- the whole
+  pub chain-read : (r : Rule) → length (r .variables) ≤ m → WellFormed r → scriptIn (chainOf constant name width r) ≡ some (asked constant name size r)
+  unfolding logics
+  chain-read r few f =
+      begins _ _ (logic-read (ascii "QF_UFBV") refl)
+      ∙ all-declared [] 0 (r .variables) _ (λ j l h. refl) (omega arith)
+      ∙ all-asserted (r .variables) few [] (claims 0 (r .variables) (r .goal)) _ (claims-fine r f)
+      ∙ asks-next _ _ false _ _ check-read
+      ∙ exits _ _ _ exit-read
+
+-- ---- what is asserted, in SMT-LIB's words
+module _ (constant : ℤ → Atom) (name : ℕ → List ℕ) where
+  abbrev term : {s : Sort} → Tree s → Sexp
+  term t = sexp constant name t
+
+  -- a tree's term has the tree's operators
+  pub operators : (p q : Tree Truth) (a b : Tree Integer) (z : ℤ) (i : ℕ)
+      → (term tru ≡ atom (symbol (ascii "true")))
+      × (term fls ≡ atom (symbol (ascii "false")))
+      × (term (neg p) ≡ call1 (ascii "not") (term p))
+      × (term (conj p q) ≡ call2 (ascii "and") (term p) (term q))
+      × (term (disj p q) ≡ call2 (ascii "or") (term p) (term q))
+      × (term (implies p q) ≡ call2 (ascii "=>") (term p) (term q))
+      × (term (iff p q) ≡ call2 (ascii "=") (term p) (term q))
+      × (term (equal a b) ≡ call2 (ascii "=") (term a) (term b))
+      × (term (less a b) ≡ call2 (ascii "bvslt") (term a) (term b))
+      × (term (atMost a b) ≡ call2 (ascii "bvsle") (term a) (term b))
+      × (term (const z) ≡ atom (constant z))
+      × (term (var i) ≡ atom (symbol (name i)))
+      × (term (minus a) ≡ call1 (ascii "bvneg") (term a))
+      × (term (sum a b) ≡ call2 (ascii "bvadd") (term a) (term b))
+      × (term (difference a b) ≡ call2 (ascii "bvsub") (term a) (term b))
+      × (term (product a b) ≡ call2 (ascii "bvmul") (term a) (term b))
+      × (term (ite p a b) ≡ call3 (ascii "ite") (term p) (term a) (term b))
+  unfolding ofTree by-rows wordOf
+  operators p q a b z i = (refl, refl, refl, refl, refl, refl, refl, refl, refl, refl, refl, refl, refl, refl, refl, refl, refl)
+
+  -- (and (bvsle MIN NAME) (bvsle NAME MAX))
+  abbrev pub rangeSexp : ℕ → Range → Sexp
+  rangeSexp i d = call2 (ascii "and") (call2 (ascii "bvsle") (atom (constant (d .low))) (atom (symbol (name i)))) (call2 (ascii "bvsle") (atom (symbol (name i))) (atom (constant (d .high))))
+
+  -- for each variable from number i on
+  abbrev pub ranges : ℕ → List Variable → List Sexp
+  ranges i [] = []
+  ranges i (v ∷ vs) = rangeSexp i (v .domain) ∷ ranges (suc i) vs
+
+  -- a range for each variable, and then the negated goal
+  pub asserts-are : (w : ℕ) (r : Rule) → asked constant name w r .asserts ≡ ranges 0 (r .variables) ++ (call1 (ascii "not") (term (r .goal)) ∷ [])
+  unfolding ofTree by-rows wordOf
+  asserts-are w r = from 0 (r .variables)
+    where
+      from : (i : ℕ) (vs : List Variable) → map (λ (t : Tree Truth). term t) (claims i vs (r .goal)) ≡ ranges i vs ++ (call1 (ascii "not") (term (r .goal)) ∷ [])
+      from i [] = refl
+      from i (v ∷ vs) = ap (λ (l : List Sexp). rangeSexp i (v .domain) ∷ l) (from (suc i) vs)
+
+-- ---- at 16 bits, and variables' numbers below 100
+
+-- a constant: its four digits give its number
+pub hex-number : (x : ℕ) → x < 65536 → numberOf 16 (hexDigits x) ≡ x
+hex-number x h =
+    let a : 0 * 16 + x / 4096 % 16 ≡ x / 4096 = omega arith in
+    let b : x / 4096 * 16 + x / 256 % 16 ≡ x / 256 = omega arith in
+    let c : x / 256 * 16 + x / 16 % 16 ≡ x / 16 = omega arith in
+    let d : x / 16 * 16 + x % 16 ≡ x = omega arith in
+    rw (a, b, c, d)
+
+pub constant16-value : (env : Environment) (z : ℤ) → value env (atom (constant16 z)) ≡ bits 16 (enc 16 z)
+unfolding constant16
+constant16-value env z = value-hexadecimal env (hexDigits (enc 16 z)) ∙ ap (bits 16) (hex-number (enc 16 z) (enc16-lt z))
+
+-- a variable: the number behind the letter
+abbrev pub numberIn : List ℕ → ℕ
+numberIn [] = 0
+numberIn (c ∷ ds) = numberOf 10 (map (λ d. d - 48) ds)
+
+pub symbol-number : (i : ℕ) → i < 100 → numberIn (symbolText i) ≡ i
+unfolding symbolText allBelow
+symbol-number i h = eqb-true (numberIn (symbolText i)) i (all-true (λ j. eqb (numberIn (symbolText j)) j) 100 refl i h)
+
+pub symbol-distinct : (i j : ℕ) → i < 100 → j < 100 → symbolText i ≡ symbolText j → i ≡ j
+symbol-distinct i j h k e = sym (symbol-number i h) ∙ ap numberIn e ∙ symbol-number j k
+
+pub texts16 : Texts constant16 symbolText width16 100
+unfolding symbolText function functions theoryName otherNames
+texts16 = record {
+  some-bits = lit≤ tt;
+  constants = constant16-value;
+  free = λ i. refl;
+  theory = λ i. refl;
+  solver = λ i. refl;
+  distinct = symbol-distinct;
+}
+
+-- SMT-LIB reads the script as V symbols of 16 bits and the claims
+pub script-read : (r : Rule) → WellFormed r → scriptOf (script r) ≡ some (asked16 r)
+unfolding scriptOf
+script-read r f = ap (λ o. andThen o scriptIn) (script-sexps r) ∙ chain-read constant16 symbolText width16 100 texts16 r (omega (arith, f .few)) f
+
+-- so a setting satisfies the script exactly if it meets these
+pub script-satisfied : (r : Rule) → WellFormed r → (setting : List ℕ) → Satisfies (script r) setting ↔ Meets (asked16 r) setting
+script-satisfied r f setting = satisfies-read (script r) setting (script-read r f)

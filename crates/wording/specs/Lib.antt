@@ -1,0 +1,4 @@
+pub mod Words
+pub mod Text
+pub mod Sixteen
+pub mod Script

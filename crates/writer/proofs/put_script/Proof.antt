@@ -1,0 +1,47 @@
+-- `writer::put_script` meets its contract: the lines in order, and room for each of them. Assumes nothing.
+use native.Mathlib.Omega.{arith}
+use borrow.Author.Needs.{needs}
+use Rattle.reading.proofs.RuleLaws.{accepted-counted}
+use Rattle.room.proofs.RoomLaws.{wrote-as, chain4}
+use Rattle.writer.proofs.LineLaws.{first-block, script-from, script-parts}
+use Rattle.writer.proofs.put_script.Statement.{statement}
+use Rattle.writer.proofs.put_script.Tie as tie
+
+variable-count-requires : tie.Need-variable-count-requires
+variable-count-requires c κs = first-block _ (c .before .before .pre .0)
+
+slice-aggregate-put : tie.Need-slice-aggregate-put
+slice-aggregate-put c = search needs
+
+put-requires : tie.Need-put-requires
+put-requires c κs = omega (arith, script-parts _ (c .before .before .before .before .before .pre .0) (c .before .before .variable-count .ensures))
+
+declarations-requires : tie.Need-declarations-requires
+declarations-requires c κs = (omega (arith, accepted-counted _ (c .before .before .before .before .before .before .before .before .before .pre .0) .few), omega (arith, script-parts _ (c .before .before .before .before .before .before .before .before .before .pre .0) (c .before .before .before .before .before .before .variable-count .ensures)))
+
+range-lines-requires : tie.Need-range-lines-requires
+range-lines-requires c κs = (first-block _ (c .before .before .before .before .before .before .before .before .before .before .before .before .before .pre .0), omega (arith, accepted-counted _ (c .before .before .before .before .before .before .before .before .before .before .before .before .before .pre .0) .few), omega (arith, script-parts _ (c .before .before .before .before .before .before .before .before .before .before .before .before .before .pre .0) (c .before .before .before .before .before .before .before .before .before .before .variable-count .ensures)))
+
+goal-lines-requires : tie.Need-goal-lines-requires
+goal-lines-requires c κs = (c .before .before .before .before .before .before .before .before .before .before .before .before .before .before .before .before .before .pre .0, omega (arith, script-parts _ (c .before .before .before .before .before .before .before .before .before .before .before .before .before .before .before .before .before .pre .0) (c .before .before .before .before .before .before .before .before .before .before .before .before .before .before .variable-count .ensures)))
+
+same-length : tie.Need-same-length
+same-length c = search needs
+
+returns : tie.Need-returns
+returns c =
+    wrote-as (chain4 (omega (arith, script-parts _ (c .before .before .before .before .before .before .before .before .before .before .before .before .before .before .before .before .before .before .before .before .pre .0) (c .before .before .before .before .before .before .before .before .before .before .before .before .before .before .before .before .before .variable-count .ensures))) (c .before .before .before .before .before .before .before .before .before .before .before .before .before .before .put .ensures) (c .before .before .before .before .before .before .before .before .before .before .declarations .ensures) (c .before .before .before .before .before .before .range-lines .ensures) (c .before .before .goal-lines .ensures))
+    (script-from _ (c .before .before .before .before .before .before .before .before .before .before .before .before .before .before .before .before .before .before .before .before .pre .0) (c .before .before .before .before .before .before .before .before .before .before .before .before .before .before .before .before .before .variable-count .ensures))
+
+pub put-script-spec : {M : Type 1} → statement M
+put-script-spec =
+    tie.close
+    (tie.spec
+    variable-count-requires
+    slice-aggregate-put
+    put-requires
+    declarations-requires
+    range-lines-requires
+    goal-lines-requires
+    same-length
+    returns)

@@ -1,0 +1,38 @@
+-- What `write_script` answers and what it leaves in the room (document 01, "The script" and refusal 9).
+use Prim.Native.Nat.{ℕ}
+use mathlib.Core.Path.{_≡_}
+use mathlib.Core.List.{List}
+use mathlib.Core.Option.{Option, none, some}
+use lib.Dec.{leb}
+use lib.ListN.{length}
+use Rattle.lists.specs.First.{_otherwise_}
+use Rattle.numbers.specs.declared.Refusal.{Refusal}
+use Rattle.layout.specs.Parts.{ruleIn}
+use Rattle.refusals.specs.Said.{unless}
+use Rattle.reading.specs.Cascade.{refusalOf}
+use Rattle.wording.specs.Script.{script}
+use Rattle.writer.specs.declared.Written.{Written}
+use Rattle.writer.specs.declared.Written.the-variants.{Script, Refused}
+use Rattle.room.specs.Room.{over}
+
+-- the sheet's own refusal, then 9 at the script's bytes: a room of fewer bytes
+unfoldable pub scriptRefusal : List ℕ → ℕ → Option Refusal
+scriptRefusal s room = refusalOf s otherwise unless (leb (length (script (ruleIn s))) room) 9 (length (script (ruleIn s)))
+
+-- what an answer says: the refusal and 0, or none and the bytes written
+abbrev pub writtenSaid : Written → Option Refusal × ℕ
+writtenSaid (Script n) = (none, n)
+writtenSaid (Refused r) = (some r, 0)
+
+-- the answer where t is the script, and the room afterwards: a refusal changes nothing
+abbrev pub verdict : Option Refusal → List ℕ → Option Refusal × ℕ
+verdict none t = (none, length t)
+verdict (some r) t = (some r, 0)
+
+abbrev pub roomAfter : Option Refusal → List ℕ → List ℕ → List ℕ
+roomAfter none t room = over t room
+roomAfter (some r) t room = room
+
+pub record Writes (s before : List ℕ) (r : Written) (after : List ℕ) : Type 0 where
+  pub answer : writtenSaid r ≡ verdict (scriptRefusal s (length before)) (script (ruleIn s))
+  pub room : after ≡ roomAfter (scriptRefusal s (length before)) (script (ruleIn s)) before

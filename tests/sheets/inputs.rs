@@ -1,0 +1,68 @@
+// Inputs for the program: accepted sheets, each refusal, and lengths about the 4,609 bytes that it reads.
+
+use crate::accepted;
+use crate::grower::{self, Grower};
+use crate::judge::next_trial;
+use crate::layout::{MOST_BYTES, MOST_NODES, MOST_VARIABLES};
+use crate::random::Random;
+use crate::refused_sheets;
+use crate::scripts::longest;
+use crate::trees::Table;
+use crate::trial::{Output, Part};
+use std::fs::{self, File};
+use std::io;
+
+/// How many of each class: accepted, and refused with 1 to 8.
+const OF_EACH: usize = 12;
+const CLASSES: [&str; 9] = ["accepted", "1", "2", "3", "4", "5", "6", "7", "8"];
+
+pub fn write(seed: u64, folder: &str) -> io::Result<()> {
+    let mut random = Random::new(seed, "inputs");
+    for (name, input) in of_each_length(&mut random) {
+        fs::write(format!("{}/{}", folder, name), input)?;
+    }
+    let sheets = labelled_sheets(&mut random, folder)?;
+    for class in CLASSES {
+        let of_class: Vec<&Vec<u8>> = sheets
+            .iter()
+            .filter(|(label, _)| label.split(':').next() == Some(class))
+            .map(|(_, x)| x)
+            .collect();
+        for number in 0..OF_EACH {
+            let sheet = of_class[random.below(of_class.len())];
+            fs::write(format!("{}/{}-{}", folder, class, number), sheet)?;
+        }
+    }
+    Ok(())
+}
+
+/// Lengths at which the program must stop reading, or must not, and the longest script.
+fn of_each_length(random: &mut Random) -> Vec<(String, Vec<u8>)> {
+    let full = grower::accepted(random, MOST_NODES, 5);
+    let mut inputs = vec![("empty".to_string(), Vec::new()), ("full".to_string(), full.clone())];
+    for length in [1, 511, 512, 513, MOST_BYTES - 1, MOST_BYTES + 1, MOST_BYTES + 2, 5_120, 65_536, 200_000] {
+        let mut input = full.clone();
+        input.resize(length, 0);
+        inputs.push((format!("length-{}", length), input));
+    }
+    let mut grower = Grower::new(random, MOST_VARIABLES);
+    let goal = longest(&mut grower);
+    inputs.push(("longest-script".to_string(), grower.sheet(&Table::of(&goal))));
+    let small = grower::accepted(random, 3, 2);
+    inputs.push(("small-and-a-byte".to_string(), [&small[..], &[0]].concat()));
+    inputs.push(("small-and-full".to_string(), [small, full].concat()));
+    inputs
+}
+
+fn labelled_sheets(random: &mut Random, folder: &str) -> io::Result<Vec<(String, Vec<u8>)>> {
+    let (trials, notes) = (format!("{}/trials", folder), format!("{}/notes", folder));
+    let mut out = Output::new(Part::Reading, File::create(&trials)?, File::create(&notes)?);
+    accepted::make(random, &mut out);
+    refused_sheets(random, &mut out);
+    out.finish();
+    let (bytes, labels) = (fs::read(&trials)?, fs::read_to_string(&notes)?);
+    fs::remove_file(trials)?;
+    fs::remove_file(notes)?;
+    let mut rest = &bytes[..];
+    Ok(labels.lines().map(|label| (label.to_string(), next_trial(&mut rest).sheet.to_vec())).collect())
+}

@@ -1,0 +1,49 @@
+// Sheets with small rules and not too many cases, whose scripts are put to solvers.
+
+use crate::few_cases::{domains, telling};
+use crate::grower::Grower;
+use crate::question::Question;
+use crate::random::Random;
+use crate::script_questions::{every_room, script_length, ENOUGH};
+use crate::trees::*;
+use crate::trial::{Asked, Output};
+
+pub fn make(random: &mut Random, out: &mut Output) {
+    for _ in 0..40 {
+        let variables = random.below(6);
+        let domains = domains(random, variables, 2_000);
+        let mut grower = Grower::with_domains(random, &domains);
+        let size = 3 + grower.random.below(20);
+        let goal = telling(&mut grower, size);
+        put(random, out, &domains, "accepted: script for solvers, any", &goal);
+        // What implies itself holds, and few others do.
+        let goal = node(random.pick(&[6, 7]), vec![goal.clone(), goal]);
+        put(random, out, &domains, "accepted: script for solvers, holds", &goal);
+    }
+    for _ in 0..10 {
+        about_zero(random, out);
+    }
+}
+
+/// Rules about a domain with zero in it: to an unsigned comparison -1 is past its upper end. Some hold only
+/// because of the range line.
+fn about_zero(random: &mut Random, out: &mut Output) {
+    let (least, greatest) = (random.between(-20, -1), random.between(1, 20));
+    let domain = (least, greatest);
+    let x = || variable(0, domain);
+    for (kind, bound) in [(9, greatest), (10, greatest), (9, greatest + 1), (10, -1), (9, 0)] {
+        let goal = node(kind, vec![x(), constant(bound)]);
+        put(random, out, &[domain], "accepted: script for solvers, about zero", &goal);
+    }
+}
+
+fn put(random: &mut Random, out: &mut Output, domains: &[Range], label: &str, goal: &Tree) {
+    let sheet = Grower::with_domains(random, domains).sheet(&Table::of(goal));
+    let questions = every_room(random, script_length(goal, domains.len()));
+    let enough = |asked: &Asked| match asked.0 {
+        Question::Script(room) => room.length == ENOUGH,
+        _ => true,
+    };
+    let questions: Vec<Asked> = questions.into_iter().filter(enough).collect();
+    out.ask_all(label, &sheet, &questions);
+}
