@@ -1,6 +1,7 @@
 -- The theorems with a premise, applied to sheet A of document 01 and to a sheet that is refused, so that each premise is seen to be met. Assumes nothing.
 use Prim.Native.Nat.{ℕ, zero, suc, _/_, _<_}
 use mathlib.Core.Path.{_≡_, refl, sym, subst}
+use mathlib.Core.Logic.{_↔_}
 use mathlib.Core.List.{List, [], _∷_}
 use mathlib.Core.Option.{none, some}
 use native.Mathlib.Omega.{arith}
@@ -15,6 +16,7 @@ use Rattle.numbers.specs.Two.{enc, dec}
 use Rattle.numbers.specs.Bytes.{byteAt, Bytes}
 use Rattle.numbers.specs.Ranges.{Narrow, In, _⋯_, isNarrow, hasNarrowEnds, leastOf, greatestOf}
 use Rattle.meaning.specs.Rule.{Rule, domainOf, Case, valueIn}
+use Rattle.meaning.proofs.Failures.{Failing}
 use Rattle.kinds.specs.Kinds.{find, kindOf}
 use Rattle.kinds.specs.Rows.{by-rows}
 use Rattle.layout.specs.Limits.{blockBytes}
@@ -40,7 +42,10 @@ use Rattle.reading.proofs.Exact.{refused-exactly, accepted-exactly}
 use Rattle.reading.proofs.RuleLaws.{accepted-means, rule-some, rule-to-sheet, rule-allowed, sheet-to-rule, goal-uses-all}
 use Rattle.reading.proofs.Change.{changed-byte}
 use Rattle.reading.proofs.Ranges.{nodeValue, in-range, in-16-bits}
+use Rattle.smtlib.specs.Satisfaction.{Satisfies}
+use Rattle.wording.specs.Script.{script}
 use Rattle.agreement.specs.Starred.{case8}
+use Rattle.agreement.proofs.Match.{settingOf, matched}
 
 -- ---- sheet A is accepted
 pub accepted-A : refusalOf sheetA ≡ none
@@ -99,3 +104,7 @@ narrow-A = in-16-bits sheetA accepted-A case-A nodes-A finding-A
 pub refused-8 : Answer (case8 .sheet) (record { number = 8; place = 2 })
 unfolding allBelow below course first dec isNarrow hasNarrowEnds leastOf greatestOf find kindOf weighted checkOf blockRight startAt ofNode lengthRight early zeros countsRight tailClear outsideClear header isLetter isNameByte allNameBytes nameRight sameBytes variableRight fresh findingOf placed typed nodeRefusal nodes refusalOf
 refused-8 = refused-exactly (case8 .sheet) (record { number = 8; place = 2 }) .0 refl
+
+-- ---- sheet A's failing cases and the settings of its script
+pub matched-A : (t : List ℕ) → Satisfies (script (ruleIn sheetA)) t ↔ ((c : List ℤ) × Failing (ruleIn sheetA) c × (settingOf c ≡ t))
+matched-A = matched sheetA bytes-A accepted-A

@@ -1,2 +1,3 @@
 pub mod StarredCases
 pub mod Applied
+pub mod Match
