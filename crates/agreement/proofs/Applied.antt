@@ -1,33 +1,35 @@
--- The theorems with a premise, applied to sheet A of document 01 and to a sheet that is refused, so that each premise is seen to be met. Assumes nothing.
-use Prim.Native.Nat.{ℕ, zero, suc, _/_, _<_}
-use mathlib.Core.Path.{_≡_, refl, sym, subst}
-use mathlib.Core.Logic.{_↔_}
-use mathlib.Core.List.{List, [], _∷_}
-use mathlib.Core.Option.{none, some}
+-- Each promise with a premise, applied to sheet A of document 01, whose rule fails in two of four cases, and to the sheet of edge case 11 (-3..2 times -4..5 is at
+-- most 12), whose rule holds in all 60; and to these sheets with other names. So each premise is seen to be met. Assumes nothing.
+use Prim.Native.Nat.{ℕ, _+_, _/_, _≤_, _<_}
+use mathlib.Core.Path.{_≡_, refl, sym, ap, _∙_}
+use mathlib.Core.Bool.{true}
+use mathlib.Core.List.{List, [], _∷_, _++_}
+use mathlib.Core.Option.{Option, none, some}
 use native.Mathlib.Omega.{arith}
-use lib.Dec.{lit<}
-use lib.IntN.{ℤ, pos}
-use lib.Signed.{leZ-yes}
-use lib.ListN.{length, set}
-use Rattle.lists.specs.Places.{allBelow, from}
+use lib.Dec.{lit<, lit≤}
+use lib.IntN.{ℤ, pos, negsuc}
+use lib.ListN.{length, set, drop}
+use Rattle.lists.specs.Places.{allBelow}
 use Rattle.lists.specs.Course.{below, course}
 use Rattle.lists.specs.First.{first}
 use Rattle.numbers.specs.Two.{enc, dec}
-use Rattle.numbers.specs.Bytes.{byteAt, Bytes}
+use Rattle.numbers.specs.Bytes.{byteAt}
 use Rattle.numbers.specs.Ranges.{Narrow, In, _⋯_, isNarrow, hasNarrowEnds, leastOf, greatestOf}
-use Rattle.meaning.specs.Rule.{Rule, domainOf, Case, valueIn}
-use Rattle.meaning.proofs.Failures.{Failing}
+use Rattle.meaning.specs.Value.{value}
+use Rattle.meaning.specs.Rule.{Case}
+use Rattle.meaning.specs.Cases.{sizeOf, casesOf, holds, AllHold, failures, firstFailure, held, failed}
+use Rattle.meaning.proofs.Failures.{first-fails}
 use Rattle.kinds.specs.Kinds.{find, kindOf}
 use Rattle.kinds.specs.Rows.{by-rows}
 use Rattle.layout.specs.Limits.{blockBytes}
-use Rattle.layout.specs.Checks.{weighted, checkOf, blockRight, sealed}
+use Rattle.layout.specs.Checks.{weighted, checkOf, blockRight}
 use Rattle.layout.specs.Starts.{startAt}
 use Rattle.layout.specs.Goal.{treeAt}
-use Rattle.layout.specs.Parts.{nodeCount, table, ruleIn, LaidOut}
-use Rattle.layout.specs.Nodes.{nodesOf, listing}
+use Rattle.layout.specs.Parts.{nodeCount, variableCount, ruleIn, Nameless}
 use Rattle.layout.specs.Sheet.{sheetOf}
-use Rattle.layout.specs.Fold.{ofNode}
-use Rattle.layout.proofs.Example.{ruleA, sheetA, laidOutA, showsA, size-is}
+use Rattle.layout.specs.Fold.{ofTree, ofNode}
+use Rattle.layout.proofs.Example.{areBytes, bytes-by}
+use Rattle.refusals.specs.declared.Reading.the-variants.{Accepted as accepted}
 use Rattle.blocks.specs.Early.{lengthRight, early}
 use Rattle.header.specs.Header.{zeros, countsRight, tailClear, outsideClear, header}
 use Rattle.records.specs.Variables.{isLetter, isNameByte, allNameBytes, nameRight, sameBytes, variableRight, fresh}
@@ -35,76 +37,196 @@ use Rattle.findings.specs.declared.Finding.the-variants.{Integer}
 use Rattle.findings.specs.Findings.{findingOf}
 use Rattle.order.specs.Order.{placed}
 use Rattle.nodes.specs.Nodes.{typed, nodeRefusal, nodes, findingAt}
-use Rattle.reading.specs.Rows.{Answer, Accepted}
-use Rattle.reading.specs.Cascade.{refusalOf, ruleOf}
-use Rattle.reading.specs.Lawful.{Lawful, Allowed}
+use Rattle.reading.specs.Rows.{Answer}
+use Rattle.reading.specs.Cascade.{refusalOf}
+use Rattle.reading.specs.Lawful.{Allowed}
 use Rattle.reading.proofs.Exact.{refused-exactly, accepted-exactly}
-use Rattle.reading.proofs.RuleLaws.{accepted-means, rule-some, rule-to-sheet, rule-allowed, sheet-to-rule, goal-uses-all}
-use Rattle.reading.proofs.Change.{changed-byte}
 use Rattle.reading.proofs.Ranges.{nodeValue, in-range, in-16-bits}
+use Rattle.odometer.specs.Limit.{mostCases, caseCount}
+use Rattle.cases.specs.declared.Checked.{Checked}
+use Rattle.cases.specs.declared.Checked.the-variants.{Holds, Fails}
+use Rattle.cases.specs.declared.Tallied.{Tallied}
+use Rattle.cases.specs.Checks.{Checks}
+use Rattle.cases.specs.Tallies.{Tallies}
 use Rattle.smtlib.specs.Satisfaction.{Satisfies}
-use Rattle.wording.specs.Script.{script}
-use Rattle.agreement.specs.Starred.{case8}
-use Rattle.agreement.proofs.Match.{settingOf, matched}
+use Rattle.wording.specs.Words.{wordOf}
+use Rattle.wording.specs.Sixteen.{hexDigit, hexText, literal, symbolText}
+use Rattle.wording.specs.Script.{joined, script}
+use Rattle.agreement.specs.Starred.{block, case1, case8, case11}
+use Rattle.agreement.specs.Statements.{Sheet, settingOf, Matched, Listed}
+use Rattle.agreement.proofs.Proved.{tallied, checked, sheet-of-rule, rule-of-sheet, one-byte-changed, holds-where, room-enough, match, check-agrees, tally-agrees, same-script}
 
--- ---- sheet A is accepted
-pub accepted-A : refusalOf sheetA ≡ none
-unfolding allBelow below course first enc dec isNarrow hasNarrowEnds leastOf greatestOf find kindOf by-rows listing sheetOf sealed weighted checkOf blockRight startAt ofNode lengthRight early zeros countsRight tailClear outsideClear header isLetter isNameByte allNameBytes nameRight sameBytes variableRight fresh findingOf placed typed nodeRefusal nodes refusalOf
-accepted-A = refl
+-- ---- what is computed of a sheet of two variables, and of one with other names
+pub record Computed (s other : List ℕ) (cases heldCases failedCases : ℕ) (firstCase : Option (List ℤ)) : Type 0 where
+  pub bytes : areBytes s ≡ true
+  pub other-bytes : areBytes other ≡ true
+  pub accepts : refusalOf s ≡ none
+  pub other-accepts : refusalOf other ≡ none
+  pub variables : variableCount s ≡ 2
+  pub size : length s ≡ 1024
+  pub cases-are : caseCount (ruleIn s) ≡ cases
+  pub first-is : firstFailure (ruleIn s) ≡ firstCase
+  pub held-are : held (ruleIn s) ≡ heldCases
+  pub failed-are : failed (ruleIn s) ≡ failedCases
+  pub scripts : script (ruleIn s) ≡ script (ruleIn other)
 
-bytes-A : Bytes sheetA
-bytes-A = laidOutA .bytes
+module _ {s other : List ℕ} {cases heldCases failedCases : ℕ} {firstCase : Option (List ℤ)} (c : Computed s other cases heldCases failedCases firstCase) (few : cases ≤ mostCases) where
+  pub sheet : Sheet s
+  sheet = record { bytes = bytes-by s (c .bytes); no-row = accepted-exactly s .0 (c .accepts) }
 
-pub no-row-A : Accepted sheetA
-no-row-A = accepted-exactly sheetA .0 accepted-A
+  pub other-sheet : Sheet other
+  other-sheet = record { bytes = bytes-by other (c .other-bytes); no-row = accepted-exactly other .0 (c .other-accepts) }
 
-pub means-A : LaidOut sheetA × Lawful (ruleIn sheetA)
-means-A = accepted-means sheetA bytes-A .0 accepted-A
+  pub few-cases : caseCount (ruleIn s) ≤ mostCases
+  few-cases = rw (c .cases-are) few
 
-pub sheet-of-rule-A : sheetOf (ruleIn sheetA) ≡ sheetA
-sheet-of-rule-A = rule-to-sheet sheetA bytes-A (ruleIn sheetA) (rule-some sheetA accepted-A)
+  enough : (room : List ℤ) → length room ≡ 3 → variableCount s ≤ length room
+  enough room l = omega (arith, c .variables)
 
-pub allowed-A : Allowed (ruleIn sheetA)
-allowed-A = rule-allowed sheetA bytes-A (ruleIn sheetA) (rule-some sheetA accepted-A)
+  pub tally-is : Tallies s (record { reading = accepted; held = heldCases; failed = failedCases })
+  tally-is = let e = tallied sheet few-cases in record { answer = sym e; held-count = rw (e, c .held-are); failed-count = rw (e, c .failed-are) }
 
-pub rule-of-sheet-A : ruleOf (sheetOf (ruleIn sheetA)) ≡ some (ruleIn sheetA)
-rule-of-sheet-A = sheet-to-rule (ruleIn sheetA) allowed-A
+  -- ---- the promises about a sheet and its script
+  pub allowed-sheet : Allowed (ruleIn s) × (sheetOf (ruleIn s) ≡ s)
+  allowed-sheet = sheet-of-rule s sheet
 
-pub all-nodes-A : from (table sheetA) 0 (nodeCount sheetA) ≡ nodesOf 0 (ruleIn sheetA .goal)
-all-nodes-A = goal-uses-all sheetA bytes-A accepted-A
+  pub sheet-again : Sheet (sheetOf (ruleIn s)) × (ruleIn (sheetOf (ruleIn s)) ≡ ruleIn s)
+  sheet-again = rule-of-sheet (ruleIn s) (allowed-sheet .0)
 
--- one changed byte
-pub changed-A : (j b : ℕ) → j < 1024 → b < 256 → (b ≡ byteAt sheetA j → ⊥) → refusalOf (set sheetA j b) ≡ some (record { number = 2; place = j / blockBytes })
-changed-A j b h l d = changed-byte sheetA bytes-A accepted-A j b (rw size-is h) l d
+  pub byte-changed : (j b : ℕ) → j < 1024 → b < 256 → (b ≡ byteAt s j → ⊥) → refusalOf (set s j b) ≡ some (record { number = 2; place = j / blockBytes })
+  byte-changed j b h = one-byte-changed s sheet j b (rw (c .size) h)
 
--- ---- the case (0, 1) of sheet A: node 0's value lies in its range
-pub case-A : Case (ruleIn sheetA) (pos 0 ∷ pos 1 ∷ [])
-case-A = subst (λ (r : Rule). Case r (pos 0 ∷ pos 1 ∷ [])) (sym showsA) (record { all = refl; each = each })
-  where
-    each : (i : ℕ) → i < 2 → In (domainOf ruleA i) (valueIn (pos 0 ∷ pos 1 ∷ []) i)
-    each zero h = record { low = leZ-yes tt; high = leZ-yes tt }
-    each (suc zero) h = record { low = leZ-yes tt; high = leZ-yes tt }
-    each (suc (suc i)) h = absurd (omega arith)
+  pub script-fits : length (script (ruleIn s)) ≤ 4096
+  script-fits = room-enough s sheet
 
+  pub matches : Matched 16 (ruleIn s) (script (ruleIn s))
+  matches = match s sheet .0
+
+  pub as-many : (ts : List (List ℕ)) × Listed (script (ruleIn s)) ts × (failedCases ≡ length ts)
+  as-many = tally-agrees s sheet few-cases _ tally-is
+
+  -- byte 10 is of variable 0's domain
+  pub same-size : length s ≡ length other
+  same-size = same-script s other sheet other-sheet (c .scripts) .0
+
+  pub same-domain : byteAt s 10 ≡ byteAt other 10
+  same-domain = same-script s other sheet other-sheet (c .scripts) .1 10 (record { size = λ i h e. omega arith; name = λ i h e. omega arith; check = λ h. omega arith })
+
+  -- ---- the check, with room for three numbers
+  module _ (room : List ℤ) (three : length room ≡ 3) where
+    pub fails-as : {first : List ℤ} → firstCase ≡ some first → Checks s room Fails (first ++ drop (length first) room)
+    fails-as e =
+        let d = checked sheet few-cases (enough room three) in
+        let f = c .first-is ∙ e in
+        record { answer = rw (d, f); room = rw (d, f) }
+
+    pub holds-as : firstCase ≡ none → Checks s room Holds room
+    holds-as e =
+        let d = checked sheet few-cases (enough room three) in
+        let f = c .first-is ∙ e in
+        record { answer = rw (d, f); room = rw (d, f) }
+
+    -- a rule that fails: some setting satisfies the script
+    pub some-setting : {first : List ℤ} → firstCase ≡ some first → (t : List ℕ) × Satisfies (script (ruleIn s)) t
+    some-setting e = check-agrees s sheet few-cases room _ Fails (enough room three) (fails-as e) .0 .0 refl
+
+    -- a rule that holds: none does
+    pub no-setting : firstCase ≡ none → (t : List ℕ) → Satisfies (script (ruleIn s)) t → ⊥
+    no-setting e t h =
+        let d : Holds ≡ Fails = check-agrees s sheet few-cases room room Holds (enough room three) (holds-as e) .0 .1 (t, h) in
+        let z : _≡_ {A = ℕ} 0 1 = cc in
+        omega arith
+
+    pub all-hold : firstCase ≡ none → AllHold (ruleIn s)
+    all-hold e = holds-where s sheet few-cases room room Holds (enough room three) (holds-as e) .0 refl
+
+-- ---- sheet A, and the same with the names a and b
+abbrev pub sheetA : List ℕ
+sheetA = case1 .sheet
+
+abbrev pub sheetB : List ℕ
+sheetB =
+    block (1 ∷ 0 ∷ 3 ∷ 0 ∷ 2 ∷ 0 ∷ 0 ∷ 0 ∷ 0 ∷ 0 ∷ 1 ∷ 0 ∷ 1 ∷ 0 ∷ 97 ∷ 0 ∷ 0 ∷ 0 ∷ 0 ∷ 0 ∷ 0 ∷ 0 ∷ 0 ∷ 0 ∷ 0 ∷ 0 ∷ 0 ∷ 0 ∷ 0 ∷ 0 ∷ 0 ∷ 0 ∷ 0 ∷ 0 ∷ 1 ∷ 0 ∷ 1 ∷ 0 ∷ 98 ∷ []) 18 21
+    ++ block (17 ∷ 0 ∷ 0 ∷ 0 ∷ 0 ∷ 0 ∷ 0 ∷ 0 ∷ 0 ∷ 0 ∷ 0 ∷ 0 ∷ 0 ∷ 0 ∷ 0 ∷ 0 ∷ 17 ∷ 0 ∷ 1 ∷ 0 ∷ 0 ∷ 0 ∷ 0 ∷ 0 ∷ 0 ∷ 0 ∷ 0 ∷ 0 ∷ 0 ∷ 0 ∷ 0 ∷ 0 ∷ 8 ∷ 0 ∷ 0 ∷ 0 ∷ 1 ∷ []) 116 2
+
+pub computedA : Computed sheetA sheetB 4 2 2 (some (pos 0 ∷ pos 1 ∷ []))
+unfolding value sizeOf casesOf holds failures firstFailure held failed treeAt allBelow below course first enc dec isNarrow hasNarrowEnds leastOf greatestOf find kindOf by-rows weighted checkOf blockRight startAt ofTree ofNode lengthRight early zeros countsRight tailClear outsideClear header isLetter isNameByte allNameBytes nameRight sameBytes variableRight fresh findingOf placed typed nodeRefusal nodes refusalOf wordOf hexDigit hexText literal symbolText joined script
+computedA = record {
+  bytes = refl;
+  other-bytes = refl;
+  accepts = refl;
+  other-accepts = refl;
+  variables = refl;
+  size = refl;
+  cases-are = refl;
+  first-is = refl;
+  held-are = refl;
+  failed-are = refl;
+  scripts = refl;
+}
+
+-- ---- the sheet of edge case 11, and the same with the names p and q
+abbrev pub sheet11 : List ℕ
+sheet11 = case11 .sheet
+
+abbrev pub sheet11-renamed : List ℕ
+sheet11-renamed =
+    block (1 ∷ 0 ∷ 5 ∷ 0 ∷ 2 ∷ 0 ∷ 0 ∷ 0 ∷ 253 ∷ 255 ∷ 2 ∷ 0 ∷ 1 ∷ 0 ∷ 112 ∷ 0 ∷ 0 ∷ 0 ∷ 0 ∷ 0 ∷ 0 ∷ 0 ∷ 0 ∷ 0 ∷ 0 ∷ 0 ∷ 0 ∷ 0 ∷ 0 ∷ 0 ∷ 0 ∷ 0 ∷ 252 ∷ 255 ∷ 5 ∷ 0 ∷ 1 ∷ 0 ∷ 113 ∷ []) 14 110
+    ++ block (17 ∷ 0 ∷ 0 ∷ 0 ∷ 0 ∷ 0 ∷ 0 ∷ 0 ∷ 0 ∷ 0 ∷ 0 ∷ 0 ∷ 0 ∷ 0 ∷ 0 ∷ 0 ∷ 17 ∷ 0 ∷ 1 ∷ 0 ∷ 0 ∷ 0 ∷ 0 ∷ 0 ∷ 0 ∷ 0 ∷ 0 ∷ 0 ∷ 0 ∷ 0 ∷ 0 ∷ 0 ∷ 21 ∷ 0 ∷ 0 ∷ 0 ∷ 1 ∷ 0 ∷ 0 ∷ 0 ∷ 0 ∷ 0 ∷ 0 ∷ 0 ∷ 0 ∷ 0 ∷ 0 ∷ 0 ∷ 16 ∷ 0 ∷ 0 ∷ 0 ∷ 0 ∷ 0 ∷ 0 ∷ 0 ∷ 12 ∷ 0 ∷ 0 ∷ 0 ∷ 0 ∷ 0 ∷ 0 ∷ 0 ∷ 10 ∷ 0 ∷ 2 ∷ 0 ∷ 3 ∷ []) 188 13
+
+pub computed11 : Computed sheet11 sheet11-renamed 60 60 0 none
+unfolding value sizeOf casesOf holds failures firstFailure held failed treeAt allBelow below course first enc dec isNarrow hasNarrowEnds leastOf greatestOf find kindOf by-rows weighted checkOf blockRight startAt ofTree ofNode lengthRight early zeros countsRight tailClear outsideClear header isLetter isNameByte allNameBytes nameRight sameBytes variableRight fresh findingOf placed typed nodeRefusal nodes refusalOf wordOf hexDigit hexText literal symbolText joined script
+computed11 = record {
+  bytes = refl;
+  other-bytes = refl;
+  accepts = refl;
+  other-accepts = refl;
+  variables = refl;
+  size = refl;
+  cases-are = refl;
+  first-is = refl;
+  held-are = refl;
+  failed-are = refl;
+  scripts = refl;
+}
+
+-- ---- both, by the module above
+abbrev three : List ℤ
+three = pos 7 ∷ negsuc 7 ∷ pos 9 ∷ []
+
+pub satisfiable-A : (t : List ℕ) × Satisfies (script (ruleIn sheetA)) t
+satisfiable-A = some-setting computedA (lit≤ tt) three refl refl
+
+pub two-settings-A : (ts : List (List ℕ)) × Listed (script (ruleIn sheetA)) ts × (2 ≡ length ts)
+two-settings-A = as-many computedA (lit≤ tt)
+
+pub names-alone-A : (length sheetA ≡ length sheetB) × (byteAt sheetA 10 ≡ byteAt sheetB 10)
+names-alone-A = (same-size computedA (lit≤ tt), same-domain computedA (lit≤ tt))
+
+pub unsatisfiable-11 : (t : List ℕ) → Satisfies (script (ruleIn sheet11)) t → ⊥
+unsatisfiable-11 = no-setting computed11 (lit≤ tt) three refl refl
+
+pub holds-11 : AllHold (ruleIn sheet11)
+holds-11 = all-hold computed11 (lit≤ tt) three refl refl
+
+pub no-settings-11 : (ts : List (List ℕ)) × Listed (script (ruleIn sheet11)) ts × (0 ≡ length ts)
+no-settings-11 = as-many computed11 (lit≤ tt)
+
+pub names-alone-11 : (length sheet11 ≡ length sheet11-renamed) × (byteAt sheet11 10 ≡ byteAt sheet11-renamed 10)
+names-alone-11 = (same-size computed11 (lit≤ tt), same-domain computed11 (lit≤ tt))
+
+-- ---- a node's range, in the case (0, 1) of sheet A
 pub finding-A : findingAt sheetA 0 ≡ Integer (pos 0 ⋯ pos 1)
-unfolding allBelow below course enc dec find kindOf by-rows listing sheetOf sealed weighted checkOf ofNode findingOf
+unfolding below course dec find kindOf ofNode findingOf
 finding-A = refl
 
-pub nodes-A : 0 < nodeCount sheetA
-unfolding enc by-rows listing sheetOf sealed weighted checkOf
-nodes-A = lit< tt
+pub range-A : (h : 0 < nodeCount sheetA) (k : Case (ruleIn sheetA) (pos 0 ∷ pos 1 ∷ [])) → In (pos 0 ⋯ pos 1) (nodeValue sheetA (computedA .accepts) k h finding-A) × Narrow (nodeValue sheetA (computedA .accepts) k h finding-A)
+range-A h k = (in-range sheetA (computedA .accepts) k h finding-A, in-16-bits sheetA (computedA .accepts) k h finding-A)
 
-pub range-A : In (pos 0 ⋯ pos 1) (nodeValue sheetA accepted-A case-A nodes-A finding-A)
-range-A = in-range sheetA accepted-A case-A nodes-A finding-A
-
-pub narrow-A : Narrow (nodeValue sheetA accepted-A case-A nodes-A finding-A)
-narrow-A = in-16-bits sheetA accepted-A case-A nodes-A finding-A
+pub case-A : Case (ruleIn sheetA) (pos 0 ∷ pos 1 ∷ [])
+case-A = first-fails (ruleIn sheetA) (computedA .first-is) .0
 
 -- ---- a sheet that is refused: 16,384 + 16,384 at node 2
 pub refused-8 : Answer (case8 .sheet) (record { number = 8; place = 2 })
 unfolding allBelow below course first dec isNarrow hasNarrowEnds leastOf greatestOf find kindOf weighted checkOf blockRight startAt ofNode lengthRight early zeros countsRight tailClear outsideClear header isLetter isNameByte allNameBytes nameRight sameBytes variableRight fresh findingOf placed typed nodeRefusal nodes refusalOf
 refused-8 = refused-exactly (case8 .sheet) (record { number = 8; place = 2 }) .0 refl
-
--- ---- sheet A's failing cases and the settings of its script
-pub matched-A : (t : List ℕ) → Satisfies (script (ruleIn sheetA)) t ↔ ((c : List ℤ) × Failing (ruleIn sheetA) c × (settingOf c ≡ t))
-matched-A = matched sheetA bytes-A accepted-A

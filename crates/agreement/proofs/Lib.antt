@@ -1,3 +1,4 @@
+pub mod Proved
+pub mod Once
 pub mod StarredCases
 pub mod Applied
-pub mod Match

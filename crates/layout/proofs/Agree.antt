@@ -18,7 +18,7 @@ use Rattle.kinds.specs.declared.Record.{Record}
 use Rattle.layout.specs.Limits.{blockBytes, contentBytes, headerBytes, variableBytes, blocksFor, variablePlace}
 use Rattle.layout.specs.Checks.{checkOf, content, sealed}
 use Rattle.layout.specs.Nodes.{nodesOf}
-use Rattle.layout.specs.Parts.{nodeCount, variableCount, variableAt, table, ruleIn, Zeros, VariableLaidOut, LaidOut}
+use Rattle.layout.specs.Parts.{nodeCount, variableCount, variableAt, table, ruleIn, Zeros, VariableLaidOut, LaidOut, Nameless}
 use Rattle.layout.specs.Sheet.{nodeContent}
 use Rattle.layout.proofs.PartLaws.{words, variable-total, variable-is}
 use Rattle.layout.proofs.Forward.{records-are}
@@ -30,12 +30,6 @@ pub record Alike (r q : Rule) : Type 0 where
   pub goal : r .goal ≡ q .goal
   pub count : length (r .variables) ≡ length (q .variables)
   pub domains : (i : ℕ) → domainOf r i ≡ domainOf q i
-
--- byte j of a sheet of n variables is no name's length, no name's byte and no byte of block 0's check, which depends on both
-pub record Nameless (n j : ℕ) : Type 0 where
-  pub size : (i : ℕ) → i < n → j ≡ variablePlace i + 4 → ⊥
-  pub name : (i : ℕ) → i < n → variablePlace i + 6 ≤ j → variablePlace i + 22 ≤ j
-  pub check : contentBytes ≤ j → blockBytes ≤ j
 
 -- the last two bytes of a variable's record are zero
 ends : (s : List ℕ) (i : ℕ) → VariableLaidOut s i → Zeros s (i + 22) 2

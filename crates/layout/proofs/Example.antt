@@ -93,11 +93,11 @@ unfolding sheetOf sealed checkOf weighted listing by-rows
 nodes-are = refl
 
 -- ---- it is well formed, whatever the names
-abbrev areBytes : List ℕ → Bool
+abbrev pub areBytes : List ℕ → Bool
 areBytes [] = true
 areBytes (x ∷ xs) = ltb x 256 && areBytes xs
 
-bytes-by : (l : List ℕ) → areBytes l ≡ true → Bytes l
+pub bytes-by : (l : List ℕ) → areBytes l ≡ true → Bytes l
 bytes-by [] e j = lit< tt
 bytes-by (x ∷ l) e zero = ltb-true x 256 (both (ltb x 256) (areBytes l) e .0)
 bytes-by (x ∷ l) e (suc j) = bytes-by l (both (ltb x 256) (areBytes l) e .1) j

@@ -84,3 +84,9 @@ pub record LaidOut (s : List ℕ) : Type 0 where
   pub tails : (b : ℕ) → b < blocksFor (nodeCount s) → Zeros s (blockBytes * (b + 1) + usedInNodeBlock s b) (contentBytes - usedInNodeBlock s b)
   pub variables : (n : ℕ) → n < variableCount s → VariableLaidOut s (variablePlace n)
   pub nodes : Sound (table s) (variableCount s) (nodeCount s)
+
+-- byte j of a sheet of n variables is no name's length, no name's byte and no byte of block 0's check, which depends on both
+pub record Nameless (n j : ℕ) : Type 0 where
+  pub size : (i : ℕ) → i < n → j ≡ variablePlace i + 4 → ⊥
+  pub name : (i : ℕ) → i < n → variablePlace i + 6 ≤ j → variablePlace i + 22 ≤ j
+  pub check : contentBytes ≤ j → blockBytes ≤ j

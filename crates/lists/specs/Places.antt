@@ -1,7 +1,7 @@
 -- A list as what it has at each number.
 use Prim.Native.Nat.{ℕ, zero, suc}
 use mathlib.Core.Bool.{Bool, true, false, _&&_}
-use mathlib.Core.List.{List, [], _∷_}
+use mathlib.Core.List.{List, [], _∷_, List·Memᴰ}
 use lib.ListN.{getD}
 
 -- what the list has at number j, and d past its end
@@ -17,3 +17,8 @@ from f i (suc k) = f i ∷ from f (suc i) k
 unfoldable pub allBelow : (ℕ → Bool) → ℕ → Bool
 allBelow t zero = true
 allBelow t (suc n) = t n && allBelow t n
+
+-- no thing of the list stands in it again, after itself
+abbrev pub NoRepeats : {A : Type 0} → List A → Type 0
+NoRepeats [] = Unit {0}
+NoRepeats (x ∷ l) = (List·Memᴰ x l → ⊥) × NoRepeats l

@@ -6,6 +6,7 @@ use mathlib.Core.List.{List, [], _∷_, _++_, map, List·Memᴰ, List·Memᴰ·h
 use Prim.Native.Nat.{suc, _≤_, _<_, zero-le}
 use native.Mathlib.Omega.{arith}
 use lib.ListN.{length}
+use Rattle.lists.specs.Places.{NoRepeats}
 use Rattle.meaning.specs.Cases.{keep, those}
 
 module _ {A : Type 0} where
@@ -17,11 +18,6 @@ module _ {A : Type 0} where
   pub mem-some : {l : List A} {x : A} → List·Memᴰ x l → 0 < length l
   mem-some (List·Memᴰ·head e) = omega arith
   mem-some (List·Memᴰ·tail m) = omega arith
-
-  -- no thing of the list stands in it again, after itself
-  abbrev pub NoRepeats : List A → Type 0
-  NoRepeats [] = Unit {0}
-  NoRepeats (x ∷ l) = (List·Memᴰ x l → ⊥) × NoRepeats l
 
 -- a function that tells the members apart keeps a list free of repeats
 pub map-no-repeats : {A B : Type 0} (f : A → B) (l : List A) → ((x y : A) → List·Memᴰ x l → List·Memᴰ y l → f x ≡ f y → x ≡ y) → NoRepeats l → NoRepeats (map f l)

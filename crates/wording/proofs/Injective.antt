@@ -36,7 +36,8 @@ use Rattle.wording.specs.Sixteen.{literal, symbolText}
 use Rattle.wording.specs.Script.{claims, script}
 use Rattle.wording.proofs.Sexps.{sexpBy, sexpStep, sexp, hexDigits, constant16, asked16}
 use Rattle.wording.proofs.Spelt.{text16-printed, printable16}
-use Rattle.wording.proofs.Read.{AllFine, claims-fine, hex-number, numberIn, symbol-number, script-read}
+use Rattle.wording.proofs.Read.{AllFine, claims-fine, hex-number, numberIn, symbol-number}
+use Rattle.wording.proofs.Forms.{script-read}
 
 -- ---- the tree that a term spells
 

@@ -1,6 +1,7 @@
 pub mod Sexps
 pub mod Spelt
 pub mod Read
+pub mod Forms
 pub mod Injective
 pub mod Worked
 pub mod MeansTrees
@@ -8,4 +9,4 @@ pub mod Means
 pub mod MeansSettings
 pub mod MeansClaims
 pub mod MeansMatch
-pub mod MeansSixteen
+pub mod MeansScript

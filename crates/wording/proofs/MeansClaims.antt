@@ -19,6 +19,8 @@ use Rattle.meaning.specs.declared.Sort.the-variants.{Truth, Integer}
 use Rattle.meaning.specs.Tree.{Tree, neg, const, var}
 use Rattle.meaning.specs.Value.{value as meant}
 use Rattle.meaning.specs.Rule.{Variable, Rule, noVariable, domainOf, Case, valueIn}
+use Rattle.meaning.specs.Cases.{Failing}
+use Rattle.meaning.specs.Cases.{holds as Cases·holds}
 use Rattle.kinds.specs.Rows.{by-rows, Throughout}
 use Rattle.smtlib.specs.Tokens.{Atom}
 use Rattle.smtlib.specs.Values.{truth}
@@ -36,11 +38,6 @@ pub record Held (w : ℕ) (r : Rule) : Type 0 where
   pub high : (i : ℕ) → i < length (r .variables) → Within w (domainOf r i .high)
   pub variables : Throughout (Below (length (r .variables))) (r .goal)
   pub values : (c : List ℤ) → Case r c → Throughout (NoWrap w (valueIn c)) (r .goal)
-
--- a case in which the goal is false
-pub record Fails (r : Rule) (c : List ℤ) : Type 0 where
-  pub case : Case r c
-  pub goal-false : meant (valueIn c) (r .goal) ≡ false
 
 const-below : {v : ℕ} (z : ℤ) → Below v Integer (const z)
 const-below z i e = absurd (let q : _≡_ {A = ℕ} 0 1 = cc in omega arith)
@@ -95,7 +92,8 @@ module _ {w v : ℕ} {constant : ℤ → Atom} {name : ℕ → List ℕ} {ρ : �
 
 -- the symbols may hold any integers of w bits
 pub claims-exactly : {w : ℕ} {constant : ℤ → Atom} {name : ℕ → List ℕ} {r : Rule} {c : List ℤ} {env : Environment} → 1 ≤ w → Held w r
-    → Integers w (length (r .variables)) c → Holding w (length (r .variables)) constant name (valueIn c) env → (allTrue env (asked constant name w r .asserts) ≡ true) ↔ Fails r c
+    → Integers w (length (r .variables)) c → Holding w (length (r .variables)) constant name (valueIn c) env → (allTrue env (asked constant name w r .asserts) ≡ true) ↔ Failing r c
+unfolding Cases·holds
 claims-exactly {w} {constant} {name} {r} {c} {env} one m k h = (to, from)
   where
     all : Decides (allTrue env (asked constant name w r .asserts)) (InDomains one h 0 (r .variables) × (holds one h (neg (r .goal)) ≡ true))
@@ -104,11 +102,11 @@ claims-exactly {w} {constant} {name} {r} {c} {env} one m k h = (to, from)
     goal-is : Case r c → holds one h (neg (r .goal)) ≡ not (meant (valueIn c) (r .goal))
     goal-is a = goal-claim one h (r .goal) (m .values c a) (m .variables)
 
-    to : allTrue env (asked constant name w r .asserts) ≡ true → Fails r c
+    to : allTrue env (asked constant name w r .asserts) ≡ true → Failing r c
     to e =
         let p = all .0 e in
         let a : Case r c = record { all = k .all; each = λ i l. p .0 i i (omega (arith, k .all)) (omega arith) } in
-        record { case = a; goal-false = not-true (meant (valueIn c) (r .goal)) (sym (goal-is a) ∙ p .1) }
+        (a, not-true (meant (valueIn c) (r .goal)) (sym (goal-is a) ∙ p .1))
 
-    from : Fails r c → allTrue env (asked constant name w r .asserts) ≡ true
-    from f = all .1 (λ j n l q. let e : n ≡ j = omega arith in rw e (f .case .each j (omega (arith, k .all))), goal-is (f .case) ∙ ap not (f .goal-false))
+    from : Failing r c → allTrue env (asked constant name w r .asserts) ≡ true
+    from f = all .1 (λ j n l q. let e : n ≡ j = omega arith in rw e (f .0 .each j (omega (arith, k .all))), goal-is (f .0) ∙ ap not (f .1))

@@ -11,13 +11,14 @@ use Rattle.numbers.specs.Two.{enc, Within}
 use Rattle.numbers.specs.Ranges.{In}
 use Rattle.numbers.proofs.Zed.{zed}
 use Rattle.meaning.specs.Rule.{Rule, Case}
+use Rattle.meaning.specs.Cases.{Failing}
 use Rattle.smtlib.specs.Tokens.{Atom}
 use Rattle.smtlib.specs.Terms.{numberOf}
 use Rattle.smtlib.specs.Satisfaction.{Meets}
 use Rattle.wording.proofs.Sexps.{asked}
 use Rattle.wording.proofs.Read.{Texts}
 use Rattle.wording.proofs.MeansSettings.{Integers, encs-inj, fits-exactly, holding}
-use Rattle.wording.proofs.MeansClaims.{Held, Fails, claims-exactly}
+use Rattle.wording.proofs.MeansClaims.{Held, claims-exactly}
 
 in-within : {w : ℕ} {d : Range} {x : ℤ} → Within w (d .low) → Within w (d .high) → In d x → Within w x
 in-within f g m = omega zed
@@ -37,19 +38,19 @@ module _ {constant : ℤ → Atom} {name : ℕ → List ℕ} {width : List ℕ} 
   w = numberOf 10 width
 
   -- integers of w bits meet the script exactly where they are a failing case
-  pub integers-meet : {c : List ℤ} → Integers w (length (r .variables)) c → Meets (asked constant name w r) (map (enc w) c) ↔ Fails r c
+  pub integers-meet : {c : List ℤ} → Integers w (length (r .variables)) c → Meets (asked constant name w r) (map (enc w) c) ↔ Failing r c
   integers-meet {c} k =
       let claims = claims-exactly (texts .some-bits) h k (holding texts (r .variables) few c (k .all)) in
       (λ m. claims .0 (m .holds), λ f. record { fits = fits-exactly constant name w (texts .some-bits) (r .variables) _ .1 (c, k, refl); holds = claims .1 f })
 
   -- a setting meets the script exactly where it is a failing case's
-  pub meets-exactly : (s : List ℕ) → Meets (asked constant name w r) s ↔ ((c : List ℤ) × Fails r c × (map (enc w) c ≡ s))
+  pub meets-exactly : (s : List ℕ) → Meets (asked constant name w r) s ↔ ((c : List ℤ) × Failing r c × (map (enc w) c ≡ s))
   meets-exactly s = (to, from)
     where
-      to : Meets (asked constant name w r) s → (c : List ℤ) × Fails r c × (map (enc w) c ≡ s)
+      to : Meets (asked constant name w r) s → (c : List ℤ) × Failing r c × (map (enc w) c ≡ s)
       to m =
           let p = fits-exactly constant name w (texts .some-bits) (r .variables) s .0 (m .fits) in
           (p .0, integers-meet (p .1) .0 (rw (p .2) m), p .2)
 
-      from : (c : List ℤ) × Fails r c × (map (enc w) c ≡ s) → Meets (asked constant name w r) s
-      from p = subst (Meets (asked constant name w r)) (p .2) (integers-meet (case-integers h (p .1 .case)) .1 (p .1))
+      from : (c : List ℤ) × Failing r c × (map (enc w) c ≡ s) → Meets (asked constant name w r) s
+      from p = subst (Meets (asked constant name w r)) (p .2) (integers-meet (case-integers h (p .1 .0)) .1 (p .1))

@@ -46,7 +46,6 @@ use Rattle.wording.specs.Words.{wordOf}
 use Rattle.wording.specs.Sixteen.{symbolText}
 use Rattle.wording.specs.Script.{claims, script}
 use Rattle.wording.proofs.Sexps.{sexpStep, sexp, declareSexp, declareChain, assertChain, chainOf, declares, asked, hexDigits, constant16, width16, asked16}
-use Rattle.wording.proofs.Spelt.{script-sexps}
 
 -- ---- the claims are as fine as the rule
 abbrev pub AllFine : ℕ → List (Tree Truth) → Type 0
@@ -309,12 +308,3 @@ texts16 = record {
   solver = λ i. refl;
   distinct = symbol-distinct;
 }
-
--- SMT-LIB reads the script as V symbols of 16 bits and the claims
-pub script-read : (r : Rule) → WellFormed r → scriptOf (script r) ≡ some (asked16 r)
-unfolding scriptOf
-script-read r f = ap (λ o. andThen o scriptIn) (script-sexps r) ∙ chain-read constant16 symbolText width16 100 texts16 r (omega (arith, f .few)) f
-
--- so a setting satisfies the script exactly if it meets these
-pub script-satisfied : (r : Rule) → WellFormed r → (setting : List ℕ) → Satisfies (script r) setting ↔ Meets (asked16 r) setting
-script-satisfied r f setting = satisfies-read (script r) setting (script-read r f)

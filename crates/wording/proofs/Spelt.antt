@@ -1,9 +1,8 @@
--- The script is the printed text of its s-expressions: of a tree, of each line, and of the whole; and SMT-LIB reads these from it. Assumes nothing.
+-- The script is the printed text of its s-expressions: of a tree, of each line, and of the whole. Assumes nothing.
 use Prim.Native.Nat.{ℕ, suc, _+_, _/_, _%_, _<_}
 use mathlib.Core.Path.{_≡_, refl, sym, ap, _∙_}
 use mathlib.Core.Bool.{Bool, true, false}
 use mathlib.Core.List.{List, [], _∷_, _++_, map, append-assoc}
-use mathlib.Core.Option.{some}
 use native.Mathlib.Omega.{arith}
 use lib.Dec.{ltb, lit<, lit≤}
 use lib.IntN.{ℤ}
@@ -25,13 +24,13 @@ use Rattle.kinds.specs.Rows.{Args, Known, Each, by-rows}
 use Rattle.layout.proofs.Made.{foundMade, found-make}
 use Rattle.smtlib.specs.Characters.{every, letterChar, digitChar, symbolChar}
 use Rattle.smtlib.specs.Tokens.{Atom, symbol, numeral, reservedWords, simple}
-use Rattle.smtlib.specs.Sexps.{Sexp, nil, cons, sexpsOf}
-use Rattle.smtlib.proofs.Printing.{digitByte, spelling, print, lines, Spelled, Printable, Listing, lines-sexps}
+use Rattle.smtlib.specs.Sexps.{Sexp, nil, cons}
+use Rattle.smtlib.proofs.Printing.{digitByte, spelling, print, lines, Spelled, Printable, Listing}
 use Rattle.smtlib.proofs.Spelling.{spelled-symbol, spelled-reserved, spelled-numeral, spelled-hexadecimal}
 use Rattle.wording.specs.Words.{wordOf}
 use Rattle.wording.specs.Text.{textBy, textStep, text}
 use Rattle.wording.specs.Sixteen.{hexDigit, hexText, literal, symbolText}
-use Rattle.wording.specs.Script.{claims, declaration, declarations, assertion, linesOf, joined, script}
+use Rattle.wording.specs.Script.{claims, declaration, declarations, assertion, linesOf, joined}
 use Rattle.wording.proofs.Sexps.{sexpBy, sexpStep, sexp, declareSexp, declareChain, assertChain, chainOf, constant16, width16}
 
 -- ---- words
@@ -185,7 +184,7 @@ symbol-spelled i = spelled-symbol (symbolText i) (by (ltb i 10) refl) refl
     by true e = rw e (and (digit-char i (ltb-true i 10 e)) refl)
     by false e = rw e (and (digit-char (i / 10 % 10) (omega arith)) (and (digit-char (i % 10) (omega arith)) refl))
 
-width-spelled : Spelled (numeral width16)
+pub width-spelled : Spelled (numeral width16)
 width-spelled = spelled-numeral 1 (6 ∷ []) (lit≤ tt) (lit< tt, (lit< tt, tt))
 
 pub text16-printed : {s : Sort} (t : Tree s) → text literal symbolText t ≡ print (sexp constant16 symbolText t)
@@ -193,14 +192,3 @@ text16-printed t = text-printed constant16 symbolText literal literal-spelling t
 
 pub printable16 : {s : Sort} (t : Tree s) → Printable (sexp constant16 symbolText t)
 printable16 t = printable constant16 symbolText constant-spelled symbol-spelled t
-
-pub script-lines : (r : Rule) → script r ≡ lines (chainOf constant16 symbolText width16 r)
-unfolding script digitByte
-script-lines r = lines-printed constant16 symbolText literal literal-spelling width16 r
-
-pub script-listing : (r : Rule) → Listing (chainOf constant16 symbolText width16 r)
-script-listing r = chain-listing constant16 symbolText constant-spelled symbol-spelled width16 width-spelled r
-
--- SMT-LIB reads the script's s-expressions
-pub script-sexps : (r : Rule) → sexpsOf (script r) ≡ some (chainOf constant16 symbolText width16 r)
-script-sexps r = ap sexpsOf (script-lines r) ∙ lines-sexps (chainOf constant16 symbolText width16 r) (script-listing r)

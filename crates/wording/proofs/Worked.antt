@@ -33,8 +33,9 @@ use Rattle.wording.specs.Text.{text}
 use Rattle.wording.specs.Sixteen.{hexDigit, hexText, literal, symbolText}
 use Rattle.wording.specs.Script.{joined, script}
 use Rattle.wording.proofs.Sexps.{sexp, chainOf, constant16, width16, asked16}
-use Rattle.wording.proofs.Spelt.{text16-printed, printable16, script-lines, script-listing, script-sexps}
-use Rattle.wording.proofs.Read.{Has, symbol-stands, setting-sorted, texts16, script-read, script-satisfied}
+use Rattle.wording.proofs.Spelt.{text16-printed, printable16}
+use Rattle.wording.proofs.Read.{Has, symbol-stands, setting-sorted, texts16}
+use Rattle.wording.proofs.Forms.{script-read, script-satisfied}
 use Rattle.wording.proofs.Injective.{same-tree, equalities-apart, script-injective}
 
 -- ---- document 01's column "text": each kind, with numbers and variables at their edges
@@ -154,15 +155,6 @@ goal-printed = text16-printed (ruleA .goal)
 
 goal-printable : Printable (sexp constant16 symbolText (ruleA .goal))
 goal-printable = printable16 (ruleA .goal)
-
-linesA : script ruleA ≡ lines (chainOf constant16 symbolText width16 ruleA)
-linesA = script-lines ruleA
-
-listingA : Listing (chainOf constant16 symbolText width16 ruleA)
-listingA = script-listing ruleA
-
-sexpsA : sexpsOf (script ruleA) ≡ some (chainOf constant16 symbolText width16 ruleA)
-sexpsA = script-sexps ruleA
 
 same-goal : (t : Tree Truth) → Fine 2 t → text16 t ≡ ascii "(= v0 v1)" → t ≡ equal (var 0) (var 1)
 unfolding ofTree by-rows wordOf symbolText

@@ -1,0 +1,55 @@
+-- No second answer and no second room fits the statement of a call. Assumes nothing.
+use mathlib.Core.Path.{_≡_, refl, sym, ap₂, _∙_}
+use mathlib.Core.Bool.{Bool, true, false}
+use mathlib.Core.List.{List, _++_}
+use mathlib.Core.Option.{Option, none, some}
+use Prim.Native.Nat.{ℕ}
+use native.Mathlib.Omega.{arith}
+use lib.IntN.{ℤ}
+use lib.ListN.{take, drop, take-append-drop}
+use Rattle.lists.proofs.PartLaws.{part-once}
+use Rattle.numbers.specs.declared.Range.{Range}
+use Rattle.meaning.specs.Odometer.{told, next, Lowered, Advanced}
+use Rattle.refusals.proofs.SaidLaws.{said-once}
+use Rattle.blocks.proofs.Unique.{block-once}
+use Rattle.reading.proofs.Unique.{read-once, name-once}
+use Rattle.cases.proofs.Unique.{check-once, tally-once}
+use Rattle.writer.proofs.Unique.{write-once}
+use Rattle.agreement.specs.OneAnswer.{OneAnswer}
+
+-- a row is its first numbers and the others
+same-row : (v : ℕ) {x y : List ℤ} → take v x ≡ take v y → drop v x ≡ drop v y → x ≡ y
+same-row v {x} {y} a b = sym (take-append-drop v x) ∙ ap₂ _++_ a b ∙ take-append-drop v y
+
+module _ {domains : ℕ → Range} {v : ℕ} {old : List ℤ} where
+  pub lowest-once : {x y : List ℤ} → Lowered domains v old x → Lowered domains v old y → x ≡ y
+  lowest-once h g = same-row v (h .case ∙ sym (g .case)) (h .others ∙ sym (g .others))
+
+  pub advance-once : {x y : List ℤ} {r t : Bool} → Advanced domains v old r x → Advanced domains v old t y → (r ≡ t) × (x ≡ y)
+  advance-once {x} {y} {r} {t} h g = by r t refl refl (sym (h .case) ∙ g .case)
+    where
+      others : drop v x ≡ drop v y
+      others = h .others ∙ sym (g .others)
+
+      by : (b c : Bool) → r ≡ b → t ≡ c → told r (take v x) ≡ told t (take v y) → (r ≡ t) × (x ≡ y)
+      by true true p q e = (p ∙ sym q, same-row v (cc) others)
+      by true false p q e = absurd (let z : _≡_ {A = ℕ} 0 1 = cc in omega arith)
+      by false true p q e = absurd (let z : _≡_ {A = ℕ} 0 1 = cc in omega arith)
+      by false false p q e = (p ∙ sym q, same-row v (h .wrapped p ∙ sym (g .wrapped q)) others)
+
+pub one-answer : OneAnswer
+one-answer = record {
+  read = read-once;
+  name = name-once;
+  block = block-once;
+  check = λ s before x y r t. check-once;
+  tally = λ s r t. tally-once;
+  write-script = λ s before x y r t. write-once;
+  ragwashin-check = λ s before x y r t h g. (h .code ∙ sym (g .code), h .room ∙ sym (g .room));
+  ragwashin-script = λ s before x y r t h g. (h .code ∙ sym (g .code), h .room ∙ sym (g .room));
+  step = λ said r t. said-once r t;
+  part = λ whole p q a n. part-once;
+  lowest = λ domains v old x y. lowest-once;
+  advance = λ domains v old x y r t. advance-once;
+  writes = λ text before x y at m n h g. (h .place ∙ sym (g .place), h .room ∙ sym (g .room));
+}

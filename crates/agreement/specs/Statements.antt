@@ -1,0 +1,118 @@
+-- The promises over the whole, a definition each, in the order of the demands. Each is proved under its name in `proofs/Proved`, and its premises are met
+-- in `proofs/Applied`. What each call answers stands beside it: `refusalOf`, `NamePart`, `BlockPart`, `Checks`, `Tallies`, `Writes`, `capi/specs/Codes`.
+use Prim.Native.Nat.{ℕ, _+_, _/_, _≤_, _<_}
+use mathlib.Core.Path.{_≡_}
+use mathlib.Core.Logic.{_↔_}
+use mathlib.Core.List.{List, map, List·Memᴰ}
+use mathlib.Core.Option.{none, some}
+use lib.IntN.{ℤ}
+use lib.ListN.{length, set, take}
+use Rattle.lists.specs.Places.{from, NoRepeats}
+use Rattle.numbers.specs.declared.Refusal.{Refusal}
+use Rattle.numbers.specs.Two.{enc}
+use Rattle.numbers.specs.Bytes.{byteAt, Bytes}
+use Rattle.meaning.specs.Rule.{Rule}
+use Rattle.meaning.specs.Cases.{casesOf, Failing, AllHold, held, failed}
+use Rattle.layout.specs.Limits.{blockBytes}
+use Rattle.layout.specs.WellFormed.{WellFormed}
+use Rattle.layout.specs.Parts.{variableCount, ruleIn, Nameless}
+use Rattle.layout.specs.Sheet.{sheetOf}
+use Rattle.reading.specs.Rows.{Answer, Accepted}
+use Rattle.reading.specs.Cascade.{refusalOf}
+use Rattle.reading.specs.Lawful.{Allowed}
+use Rattle.odometer.specs.Limit.{mostCases, caseCount}
+use Rattle.cases.specs.declared.Checked.{Checked}
+use Rattle.cases.specs.declared.Checked.the-variants.{Holds, Fails}
+use Rattle.cases.specs.declared.Tallied.{Tallied}
+use Rattle.cases.specs.Checks.{Checks}
+use Rattle.cases.specs.Tallies.{Tallies}
+use Rattle.smtlib.specs.Values.{bitVec}
+use Rattle.smtlib.specs.Terms.{numberOf}
+use Rattle.smtlib.specs.Commands.{Declaration}
+use Rattle.smtlib.specs.Satisfaction.{declared, Satisfies}
+use Rattle.wording.specs.Sixteen.{symbolText}
+use Rattle.wording.specs.Script.{script}
+use Rattle.wording.proofs.Forms.{Form, scriptBy}
+use Rattle.wording.proofs.MeansClaims.{Held}
+
+-- an accepted sheet: bytes to which no row of the table of refusals applies
+pub record Sheet (s : List ℕ) : Type 0 where
+  pub bytes : Bytes s
+  pub no-row : Accepted s
+
+-- ---- demand 1: any bytes; exactly the number and place of the table, and nothing refused without that cause
+abbrev pub RefusedExactly : Type 0
+RefusedExactly = (s : List ℕ) → ((r : Refusal) → (refusalOf s ≡ some r) ↔ Answer s r) × ((refusalOf s ≡ none) ↔ Accepted s)
+
+-- an accepted sheet is what the layout writes of its rule, and each rule that is allowed has such a sheet
+abbrev pub SheetOfRule : Type 0
+SheetOfRule = (s : List ℕ) → Sheet s → Allowed (ruleIn s) × (sheetOf (ruleIn s) ≡ s)
+
+abbrev pub RuleOfSheet : Type 0
+RuleOfSheet = (r : Rule) → Allowed r → Sheet (sheetOf r) × (ruleIn (sheetOf r) ≡ r)
+
+-- a change of any one byte of an accepted sheet gives refusal 2 at that block
+abbrev pub OneByteChanged : Type 0
+OneByteChanged =
+    (s : List ℕ) → Sheet s → (j b : ℕ) → j < length s → b < 256 → (b ≡ byteAt s j → ⊥)
+    → refusalOf (set s j b) ≡ some (record { number = 2; place = j / blockBytes })
+
+-- ---- demand 2: held and failed are all cases, and these the product of the domain sizes
+abbrev pub AllCounted : Type 0
+AllCounted = (r : Rule) → (held r + failed r ≡ length (casesOf r)) × (length (casesOf r) ≡ caseCount r)
+
+-- up to 1,000,000 cases and with room for V numbers, the check says that the rule holds exactly where every case holds
+abbrev pub HoldsExactly : Type 0
+HoldsExactly =
+    (s : List ℕ) → Sheet s → caseCount (ruleIn s) ≤ mostCases → (before after : List ℤ) (r : Checked) → variableCount s ≤ length before → Checks s before r after
+    → (r ≡ Holds) ↔ AllHold (ruleIn s)
+
+-- a room of 4,096 bytes is enough for every script
+abbrev pub RoomEnough : Type 0
+RoomEnough = (s : List ℕ) → Sheet s → length (script (ruleIn s)) ≤ 4096
+
+-- ---- demand 3: each symbol holds its variable's value in two's complement at w bits
+abbrev pub settingOf : ℕ → List ℤ → List ℕ
+settingOf w c = map (enc w) c
+
+-- the rule's failing cases and the settings that satisfy a text match one to one
+pub record Matched (w : ℕ) (r : Rule) (text : List ℕ) : Type 0 where
+  pub satisfies : (c : List ℤ) → Failing r c → Satisfies text (settingOf w c)
+  pub apart : (c d : List ℤ) → Failing r c → Failing r d → settingOf w c ≡ settingOf w d → c ≡ d
+  pub onto : (t : List ℕ) → Satisfies text t → (c : List ℤ) × Failing r c × (settingOf w c ≡ t)
+
+-- for every accepted sheet and its script, whose symbols are v0 to v(V - 1), in that order
+abbrev pub symbols : ℕ → List Declaration
+symbols n = from (λ i. record { name = symbolText i; sort = bitVec 16 }) 0 n
+
+abbrev pub Match : Type 0
+Match = (s : List ℕ) → Sheet s → Matched 16 (ruleIn s) (script (ruleIn s)) × (declared (script (ruleIn s)) ≡ some (symbols (variableCount s)))
+
+-- over any width that holds the rule, and any form of the script at that width
+abbrev pub MatchAtWidth : Type 0
+MatchAtWidth =
+    (literal : ℤ → List ℕ) (name : ℕ → List ℕ) (digits : List ℕ) (m : ℕ) → Form literal name digits m
+    → (r : Rule) → length (r .variables) ≤ m → WellFormed r → Held (numberOf 10 digits) r
+    → Matched (numberOf 10 digits) r (scriptBy literal name digits r)
+
+-- up to 1,000,000 cases and with room for V numbers, the check reports a failing case exactly when some setting satisfies the script, and the case gives one
+abbrev pub CheckAgrees : Type 0
+CheckAgrees =
+    (s : List ℕ) → Sheet s → caseCount (ruleIn s) ≤ mostCases → (before after : List ℤ) (r : Checked) → variableCount s ≤ length before → Checks s before r after
+    → ((r ≡ Fails) ↔ ((t : List ℕ) × Satisfies (script (ruleIn s)) t)) × (r ≡ Fails → Satisfies (script (ruleIn s)) (settingOf 16 (take (variableCount s) after)))
+
+-- the settings that satisfy the script, each once, are as many as the tally's failed count says
+pub record Listed (text : List ℕ) (ts : List (List ℕ)) : Type 0 where
+  pub once : NoRepeats ts
+  pub are : (t : List ℕ) → List·Memᴰ t ts ↔ Satisfies text t
+
+abbrev pub TallyAgrees : Type 0
+TallyAgrees =
+    (s : List ℕ) → Sheet s → caseCount (ruleIn s) ≤ mostCases → (r : Tallied) → Tallies s r
+    → (ts : List (List ℕ)) × Listed (script (ruleIn s)) ts × (r .failed ≡ length ts)
+
+-- two accepted sheets with the same script have one length, and differ in no byte but name lengths, names and block 0's check
+abbrev pub SameScript : Type 0
+SameScript =
+    (s t : List ℕ) → Sheet s → Sheet t → script (ruleIn s) ≡ script (ruleIn t)
+    → (length s ≡ length t) × ((j : ℕ) → Nameless (variableCount s) j → byteAt s j ≡ byteAt t j)
