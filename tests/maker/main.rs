@@ -9,13 +9,19 @@
 
 mod answers;
 mod cases;
+mod edits;
+mod exams;
 mod oracle;
 mod ranges;
 mod rule;
+mod script;
 mod sheet;
 mod text;
+mod trials;
 
+use exams::{Counts, Examiner, SOLVERS};
 use std::fs;
+use std::io::{self, Write};
 use std::path::Path;
 use std::process::exit;
 use text::Written;
@@ -26,6 +32,8 @@ fn main() {
     let done = match words[..] {
         ["sheet", rule, sheet] => made(rule).and_then(|(_, bytes)| write(sheet, &bytes)),
         ["answers", oracle, ref rules @ ..] => tell_answers(oracle, rules),
+        ["trials", ref sheets @ ..] => tell_trials(sheets),
+        ["solvers", oracle, trials, folder] => judge(oracle, trials, folder),
         _ => Err("usage: maker sheet | answers | trials | solvers; see the top of main.rs".to_string()),
     };
     if let Err(why) = done {
@@ -36,6 +44,10 @@ fn main() {
 
 fn write(file: &str, bytes: &[u8]) -> Result<(), String> {
     fs::write(file, bytes).map_err(|error| format!("{}: {}", file, error))
+}
+
+fn read(file: &str) -> Result<Vec<u8>, String> {
+    fs::read(file).map_err(|error| format!("{}: {}", file, error))
 }
 
 /// A rule's text as it is read, and its sheet.
@@ -63,5 +75,30 @@ fn tell_answers(oracle: &str, rules: &[&str]) -> Result<(), String> {
             println!("{} {}: {}", name, call, line);
         }
     }
+    Ok(())
+}
+
+fn tell_trials(sheets: &[&str]) -> Result<(), String> {
+    for file in sheets {
+        let trial = trials::trial(&read(file)?, &[trials::SCRIPT]);
+        io::stdout().write_all(&trial).map_err(|error| error.to_string())?;
+    }
+    Ok(())
+}
+
+/// Each solver goes through all scripts, both at once.
+fn judge(oracle: &str, trials: &str, folder: &str) -> Result<(), String> {
+    let subjects = exams::subjects(oracle, &trials::sheets(&read(trials)?), folder)?;
+    let examine = |solver| Examiner::new(solver, folder).examine_all(&subjects);
+    let [first, second] = std::thread::scope(|scope| {
+        let threads = SOLVERS.map(|solver| scope.spawn(move || examine(solver)));
+        threads.map(|thread| thread.join().expect("no examiner panics"))
+    });
+    let (first, second) = (first?, second?);
+    if first != second {
+        return Err("the solvers were not asked about the same scripts".to_string());
+    }
+    let Counts { sat, unsat, few } = first;
+    println!("{} {} {}", sat, unsat, few);
     Ok(())
 }

@@ -2,30 +2,16 @@
 
 use crate::answers::{failing, refused, tallied, Answers};
 use crate::sheet;
+use crate::trials::{trial, CHECK, READ, TALLY};
 use std::io::Write;
 use std::process::{Command, Stdio};
 
-const READ: u8 = 1;
-const CHECK: u8 = 4;
-const TALLY: u8 = 5;
-const MOST_VARIABLES: u64 = 16;
 /// Three answers, and a room of sixteen numbers after the second.
 const BYTES: usize = 8 + (8 + 32) + 8;
 
-fn trial(sheet: &[u8]) -> Vec<u8> {
-    let mut trial = (sheet.len() as u32).to_le_bytes().to_vec();
-    trial.extend(3u32.to_le_bytes());
-    trial.extend(sheet);
-    for (subject, number) in [(READ, 0), (CHECK, MOST_VARIABLES), (TALLY, 0)] {
-        trial.push(subject);
-        trial.extend(u64::to_le_bytes(number));
-    }
-    trial
-}
-
 /// What the oracle says of each sheet.
 pub fn answers(oracle: &str, sheets: &[Vec<u8>]) -> Vec<Answers> {
-    let trials: Vec<u8> = sheets.iter().flat_map(|sheet| trial(sheet)).collect();
+    let trials: Vec<u8> = sheets.iter().flat_map(|sheet| trial(sheet, &[READ, CHECK, TALLY])).collect();
     let mut child =
         Command::new(oracle).stdin(Stdio::piped()).stdout(Stdio::piped()).spawn().expect("the oracle runs");
     let mut input = child.stdin.take().expect("its input");

@@ -54,7 +54,8 @@ pub fn made(written: &Written) -> Result<Vec<u8>, String> {
 /// All but the blocks' checks.
 fn contents(rule: &Rule) -> Vec<u8> {
     let nodes = rule.goal.size();
-    let mut sheet = vec![0; BLOCK * (1 + nodes.div_ceil(NODES_IN_BLOCK))];
+    // As far as the end of the last node's block.
+    let mut sheet = vec![0; BLOCK * (1 + node_at(nodes - 1) / BLOCK)];
     put(&mut sheet, 0, 1);
     put(&mut sheet, 2, nodes as i64);
     sheet[4] = rule.variables.len() as u8;

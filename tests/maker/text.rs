@@ -115,10 +115,7 @@ fn number(line: usize, word: &str) -> Said<i64> {
 
 /// The rule with the goal that these words say; the first of them is 'goal'.
 fn with_goal(variables: Vec<Variable>, words: &[Word]) -> Said<Rule> {
-    let Some((begin, rest)) = words.split_first() else {
-        return Err("there is no goal".to_string());
-    };
-    let mut rest = rest;
+    let (begin, mut rest) = words.split_first().ok_or("there is no goal")?;
     let goal = operand(&variables, &mut rest, *begin, Sort::Truth)?;
     if let Some(&(line, word)) = rest.first() {
         return wrong(line, format!("'{}' comes after the end of the goal", word));
@@ -131,10 +128,13 @@ fn with_goal(variables: Vec<Variable>, words: &[Word]) -> Said<Rule> {
 
 /// The tree at the front of the words, which must be of this sort; it is an operand of the word before.
 fn operand(variables: &[Variable], rest: &mut &[Word], of: Word, sort: Sort) -> Said<Tree> {
-    let Some((&(line, word), others)) = rest.split_first() else {
-        return wrong(of.0, format!("'{}' lacks an operand: the text ends", of.1));
+    let (line, word) = match rest.split_first() {
+        Some((&first, others)) => {
+            *rest = others;
+            first
+        }
+        None => return wrong(of.0, format!("'{}' lacks an operand: the text ends", of.1)),
     };
-    *rest = others;
     let (kind, leaf) = meaning(variables, line, word)?;
     if kind.gives != sort {
         return wrong(
