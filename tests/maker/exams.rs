@@ -1,7 +1,7 @@
-// Has solvers judge the scripts of accepted sheets. Of each script, as it is, they must say 'sat' exactly if some
-// case fails. Asked for values too, they must give a case of the domains that fails. Where few cases fail, these
-// are all there is: with every failing case shut out they must say 'unsat', and with all but one shut out they must
-// give that one. What fails is found by the maker, which must agree with the oracle.
+// Has solvers judge the scripts of accepted sheets. Of each script, as it is, they must say 'sat' exactly if
+// some case fails. Asked for values too, they must give a case of the domains that fails. Where few cases fail,
+// these are all there is: with every failing case shut out they must say 'unsat', and with all but one shut out
+// they must give that one. What fails is found by the maker, which must agree with the oracle.
 
 use crate::answers::{failing, tallied};
 use crate::cases::{self, Case, Outcome};

@@ -1,9 +1,9 @@
-// The maker: makes sheets from rules' texts, says what answers they must get, and has solvers judge scripts.
-// It shares no code with the library, the oracle or the tests' sheets.
+// The maker: makes sheets from rules' texts, says what answers they must get, and has solvers judge scripts. It
+// shares no code with the library, the oracle or the tests' sheets.
 //
 //   maker sheet RULE SHEET               makes the sheet of a rule's text (see text.rs)
-//   maker answers ORACLE RULE..          the answers that the sheets must get, a line for each call; fails where
-//                                        the oracle, asked about the sheet's bytes, says another thing
+//   maker answers ORACLE RULE..          the answers that the sheets must get, a line for each call; fails
+//                                        where the oracle, asked about the sheets, says another thing
 //   maker trials SHEET..                 trials that ask for the script of each sheet
 //   maker solvers ORACLE TRIALS FOLDER   puts the scripts in FOLDER to z3 and cvc5 (see exams.rs)
 
