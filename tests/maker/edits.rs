@@ -17,12 +17,20 @@ pub const ALL: [Edit; 4] = [
     Edit { name: "bvule for bvsle in a range line", make: unsigned_range, in_models: true },
 ];
 
-/// The script with line `number` made another, or left out.
-fn with_line(script: &str, number: usize, change: impl Fn(&str) -> Option<String>) -> String {
-    let lines = script.lines().enumerate();
-    let changed =
-        lines.filter_map(|(i, line)| if i == number { change(line) } else { Some(line.to_string()) });
-    changed.map(|line| line + "\n").collect()
+/// The script with one line made another, unless that line isn't what the edit takes it for.
+fn with_line(script: &str, number: usize, change: fn(&str) -> Option<String>) -> Option<String> {
+    let mut lines: Vec<String> = script.lines().map(|line| line.to_string() + "\n").collect();
+    let changed = change(lines[number].trim_end()).filter(|line| *line != lines[number])?;
+    lines[number] = changed;
+    Some(lines.concat())
+}
+
+fn goal_in(line: &str) -> Option<&str> {
+    line.strip_prefix("(assert (not ")?.strip_suffix("))")
+}
+
+fn range_in(line: &str) -> Option<&str> {
+    line.strip_prefix("(assert (and ")?.strip_suffix("))")
 }
 
 /// The logic, the declarations and the range lines come before the goal.
@@ -40,16 +48,13 @@ fn has_zero_inside(variable: &Variable) -> bool {
 
 /// The one failing case that is left is then no setting's.
 fn not_negated(rule: &Rule, script: &str) -> Option<String> {
-    Some(with_line(script, goal_line(rule), |line| {
-        let inner = line.strip_prefix("(assert (not ")?.strip_suffix("))")?;
-        Some(format!("(assert {})", inner))
-    }))
+    with_line(script, goal_line(rule), |line| Some(format!("(assert {})\n", goal_in(line)?)))
 }
 
 /// Settings then outnumber failing cases.
 fn no_range_line(rule: &Rule, script: &str) -> Option<String> {
     let unread = (0..rule.variables.len()).find(|&variable| !rule.goal.reads(variable))?;
-    Some(with_line(script, range_line(rule, unread), |_| None))
+    with_line(script, range_line(rule, unread), |line| range_in(line).map(|_| String::new()))
 }
 
 /// Whether a variable about zero is at most zero: -1 is then past all positive numbers.
@@ -59,11 +64,15 @@ fn unsigned_goal(rule: &Rule, script: &str) -> Option<String> {
     if !compares || operands[1].leaf != 0 || !has_zero_inside(&rule.variables[operands[0].leaf as usize]) {
         return None;
     }
-    Some(with_line(script, goal_line(rule), |line| Some(line.replace("bvsle", "bvule"))))
+    with_line(script, goal_line(rule), |line| {
+        Some(format!("(assert (not {}))\n", goal_in(line)?.replace("bvsle", "bvule")))
+    })
 }
 
 /// No number is then in the range.
 fn unsigned_range(rule: &Rule, script: &str) -> Option<String> {
     let about_zero = rule.variables.iter().position(has_zero_inside)?;
-    Some(with_line(script, range_line(rule, about_zero), |line| Some(line.replace("bvsle", "bvule"))))
+    with_line(script, range_line(rule, about_zero), |line| {
+        Some(format!("(assert (and {}))\n", range_in(line)?.replace("bvsle", "bvule")))
+    })
 }
