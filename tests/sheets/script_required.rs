@@ -9,7 +9,7 @@ pub fn of_script(all: &mut All) {
     all.extend(KINDS.iter().map(|kind| format!("accepted: script, a node of kind {}", kind)));
     add(all, "accepted: script, ", "a variable never read|every symbol|any|a number|long|the longest");
     add(all, "accepted: script, ", "too many cases to check");
-    add(all, "accepted: script for solvers, ", "any|holds|about zero");
+    add(all, "accepted: script for solvers, ", "any|holds|about zero|a variable not read");
     refusals(all, "script");
     all.extend((0..=16).map(|variables| format!("script: written, V = {}", variables)));
     all.extend((2..=9).map(|blocks| format!("script: written, {} blocks", blocks)));

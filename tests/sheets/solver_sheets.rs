@@ -9,7 +9,7 @@ use crate::trees::*;
 use crate::trial::{Asked, Output};
 
 pub fn make(random: &mut Random, out: &mut Output) {
-    for _ in 0..40 {
+    for _ in 0..150 {
         let variables = random.below(6);
         let domains = domains(random, variables, 2_000);
         let mut grower = Grower::with_domains(random, &domains);
@@ -20,8 +20,9 @@ pub fn make(random: &mut Random, out: &mut Output) {
         let goal = node(random.pick(&[6, 7]), vec![goal.clone(), goal]);
         put(random, out, &domains, "accepted: script for solvers, holds", &goal);
     }
-    for _ in 0..10 {
+    for _ in 0..20 {
         about_zero(random, out);
+        one_not_read(random, out);
     }
 }
 
@@ -31,10 +32,26 @@ fn about_zero(random: &mut Random, out: &mut Output) {
     let (least, greatest) = (random.between(-20, -1), random.between(1, 20));
     let domain = (least, greatest);
     let x = || variable(0, domain);
-    for (kind, bound) in [(9, greatest), (10, greatest), (9, greatest + 1), (10, -1), (9, 0)] {
+    for (kind, bound) in [(9, greatest), (10, greatest), (9, greatest + 1), (10, -1), (9, 0), (10, 0)] {
         let goal = node(kind, vec![x(), constant(bound)]);
         put(random, out, &[domain], "accepted: script for solvers, about zero", &goal);
     }
+}
+
+/// A rule that fails in few cases and reads all its variables but one.
+fn one_not_read(random: &mut Random, out: &mut Output) {
+    let mut domains = domains(random, 3, 60);
+    domains.push((random.between(-3, 0), random.between(0, 3)));
+    let unread = random.below(domains.len());
+    let read: Vec<usize> = (0..domains.len()).filter(|&number| number != unread).collect();
+    // It fails where all that are read have their greatest value.
+    let below = |number: usize| {
+        let domain = domains[number];
+        node(9, vec![variable(number, domain), constant(domain.1)])
+    };
+    let goal =
+        read.into_iter().map(below).reduce(|one, other| node(5, vec![one, other])).expect("three are read");
+    put(random, out, &domains, "accepted: script for solvers, a variable not read", &goal);
 }
 
 fn put(random: &mut Random, out: &mut Output, domains: &[Range], label: &str, goal: &Tree) {
