@@ -7,7 +7,6 @@ use lib.ListN.{length, take}
 use Rattle.kinds.specs.declared.Kind.{Kind}
 use Rattle.kinds.specs.declared.Kind.the-variants.{Unknown, True, False, Not, And, Or, Implies, Iff, Equal, Less, AtMost, Constant, Variable, Minus, Sum, Difference, Product, If}
 use Rattle.wording.specs.Words.{wordOf}
-use Rattle.pieces.specs.declared.Word.{Word}
 use Rattle.pieces.specs.Spelling.{Spells}
 
 -- the row of letters and the number that an arm gives

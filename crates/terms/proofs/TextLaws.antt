@@ -15,7 +15,7 @@ use Rattle.kinds.specs.declared.Shape.the-variants.{Wrong, Bare, Valued, Named,
 use Rattle.kinds.specs.Kinds.{row}
 use Rattle.layout.specs.Limits.{mostVariables, mostNodes, nodePlace}
 use Rattle.layout.specs.Starts.{shapeAt, operandsOf, startBy, startAt, Ordered, Listed, Placed}
-use Rattle.layout.specs.Parts.{nodeCount, variableCount, table}
+use Rattle.layout.specs.Parts.{variableCount, table}
 use Rattle.layout.specs.Fold.{foundBy}
 use Rattle.layout.proofs.StartLaws.{Before, lower, start-is}
 use Rattle.layout.proofs.FoldLaws.{node-is}

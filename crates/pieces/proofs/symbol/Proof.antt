@@ -1,5 +1,4 @@
 -- `pieces::symbol` meets its contract: `v` and one or two digits. Assumes nothing.
-use mathlib.Core.Path.{refl}
 use native.Mathlib.Omega.{arith}
 use borrow.Author.Needs.{needs}
 use Rattle.room.proofs.RoomLaws.{wrote-as}
