@@ -1,5 +1,5 @@
 -- The script of an accepted sheet from its lines, and how long it is. Assumes nothing.
-use Prim.Native.Nat.{ℕ, zero, suc, _+_, _-_, _*_, _≤_, _<_}
+use Prim.Native.Nat.{ℕ, zero, suc, _+_, _-_, _≤_}
 use mathlib.Core.Path.{_≡_, refl, sym, ap, _∙_}
 use mathlib.Core.List.{List, [], _∷_, _++_, map, append-assoc, append-nil}
 use mathlib.Core.Option.{none}
@@ -28,6 +28,7 @@ use Rattle.lines.proofs.LineLaws.{variables-length}
 use Rattle.terms.specs.Texts.{Ready, textAt}
 use Rattle.terms.proofs.TextLaws.{text-short}
 use Rattle.writer.specs.Ending.{goalLines}
+use Rattle.writer.specs.Writes.{enoughRoom}
 
 -- ---- the lines of the goal
 pub goal-from : (s : List ℕ) {n : ℕ} → n ≡ nodeCount s - 1 → ascii "(assert (not" ++ (ascii " " ++ textAt s n) ++ ascii "))\n(check-sat)\n(exit)\n" ≡ goalLines s
@@ -128,6 +129,5 @@ module _ (s : List ℕ) (e : refusalOf s ≡ none) where
       let z = accepted-counted s e .size in
       omega arith
 
-  -- a room of 4,096 bytes is enough
-  pub script-short : length (script (ruleIn s)) ≤ 4096
+  pub script-short : length (script (ruleIn s)) ≤ enoughRoom
   script-short = let c = accepted-counted s e in omega (arith, script-length, text-short (goal-ready refl), c .few)
