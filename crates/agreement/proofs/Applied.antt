@@ -52,6 +52,7 @@ use Rattle.smtlib.specs.Satisfaction.{Satisfies}
 use Rattle.wording.specs.Words.{wordOf}
 use Rattle.wording.specs.Sixteen.{hexDigit, hexText, literal, symbolText}
 use Rattle.wording.specs.Script.{joined, script}
+use Rattle.writer.specs.Writes.{enoughRoom}
 use Rattle.agreement.specs.Starred.{block, case1, case8, case11}
 use Rattle.agreement.specs.Statements.{Sheet, settingOf, Matched, Listed}
 use Rattle.agreement.proofs.Proved.{tallied, checked, sheet-of-rule, rule-of-sheet, one-byte-changed, holds-where, room-enough, match, check-agrees, tally-agrees, same-script}
@@ -96,7 +97,7 @@ module _ {s other : List ℕ} {cases heldCases failedCases : ℕ} {firstCase : O
   pub byte-changed : (j b : ℕ) → j < 1024 → b < 256 → (b ≡ byteAt s j → ⊥) → refusalOf (set s j b) ≡ some (record { number = 2; place = j / blockBytes })
   byte-changed j b h = one-byte-changed s sheet j b (rw (c .size) h)
 
-  pub script-fits : length (script (ruleIn s)) ≤ 4096
+  pub script-fits : length (script (ruleIn s)) ≤ enoughRoom
   script-fits = room-enough s sheet
 
   pub matches : Matched 16 (ruleIn s) (script (ruleIn s))

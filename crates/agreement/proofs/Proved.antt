@@ -20,6 +20,7 @@ use Rattle.meaning.proofs.Counts.{case-count, held-failed}
 use Rattle.meaning.proofs.Repeats.{map-no-repeats}
 use Rattle.meaning.proofs.Failures.{failures-are, failures-once, failed-is, first-fails, first-some}
 use Rattle.kinds.specs.Rows.{Throughout}
+use Rattle.kinds.proofs.ClaimLaws.{follows}
 use Rattle.layout.specs.Parts.{variableCount, ruleIn, LaidOut}
 use Rattle.layout.specs.Sheet.{sheetOf}
 use Rattle.layout.proofs.PartLaws.{variable-total}
@@ -46,11 +47,11 @@ use Rattle.wording.specs.Script.{script}
 use Rattle.wording.proofs.Sexps.{declares, constant16, asked16}
 use Rattle.wording.proofs.Injective.{script-injective}
 use Rattle.wording.proofs.Forms.{form16, script-by, script-read}
-use Rattle.wording.proofs.MeansTrees.{NoWrap, follows}
+use Rattle.wording.proofs.MeansTrees.{NoWrap}
 use Rattle.wording.proofs.MeansClaims.{Held}
 use Rattle.wording.proofs.MeansMatch.{one-case}
 use Rattle.wording.proofs.MeansScript.{form-means, held16}
-use Rattle.writer.proofs.LineLaws.{script-short}
+use Rattle.writer.proofs.ScriptLaws.{script-short}
 use Rattle.agreement.specs.Statements as promise
 use Rattle.agreement.specs.Statements.{Sheet, settingOf, symbols, Matched, Listed}
 

@@ -34,6 +34,7 @@ use Rattle.wording.specs.Sixteen.{symbolText}
 use Rattle.wording.specs.Script.{script}
 use Rattle.wording.proofs.Forms.{Form, scriptBy}
 use Rattle.wording.proofs.MeansClaims.{Held}
+use Rattle.writer.specs.Writes.{enoughRoom}
 
 -- an accepted sheet: bytes to which no row of the table of refusals applies
 pub record Sheet (s : List ℕ) : Type 0 where
@@ -69,7 +70,7 @@ HoldsExactly =
 
 -- a room of 4,096 bytes is enough for every script
 abbrev pub RoomEnough : Type 0
-RoomEnough = (s : List ℕ) → Sheet s → length (script (ruleIn s)) ≤ 4096
+RoomEnough = (s : List ℕ) → Sheet s → length (script (ruleIn s)) ≤ enoughRoom
 
 -- ---- demand 3: each symbol holds its variable's value in two's complement at w bits
 abbrev pub settingOf : ℕ → List ℤ → List ℕ

@@ -3,32 +3,29 @@ ghost use mathlib.Core.Path.{_≡_};
 ghost use Prim.Native.Nat.{_+_, _*_, _≤_, _<_, _^_};
 ghost use lib.ListN.{length};
 ghost use Rattle.numbers.specs.Bytes.{byteAt};
+ghost use Rattle.layout.specs.Limits.{contentBytes};
 ghost use Rattle.layout.specs.Checks.{checkOf, blockRight, Inside};
 ghost use Rattle.refusals.specs.Said.{saidOf};
 ghost use Rattle.blocks.specs.Block.{BlockPart};
 ghost use Rattle.blocks.specs.Early.{checksRefusal, early};
+use layout::BLOCK_BYTES;
+use layout::CONTENT_BYTES;
+use layout::MODULUS;
+use layout::MOST_BLOCKS;
 use numbers::Refusal;
 use refusals::Reading;
 
-const BLOCK: usize = 512;
-
-const CONTENT: usize = 510;
-
-const MODULUS: usize = 65521;
-
-const MOST_BLOCKS: usize = 9;
-
 // A content byte times its weight.
 fn term(content: &[u8], i: usize) -> usize
-    requires { ⌜ (i < length (now content)) × (i < 510) ⌝ }
-    ensures { λ r. ⌜ (r ≡ (i + 1) * byteAt (now (content .entry)) i) × (r ≤ 130050) ⌝ }
+    requires { ⌜ (i < length (now content)) × (i < contentBytes) ⌝ }
+    ensures { λ r. ⌜ (r ≡ (i + 1) * byteAt (now (content .entry)) i) × (r ≤ contentBytes * 255) ⌝ }
 {
     (i + 1) * (content[i] as usize)
 }
 
 // The check of block k with this content.
 fn check_of(k: usize, content: &[u8]) -> usize
-    requires { ⌜ (k < 2 ^ 55) × (length (now content) ≤ 510) ⌝ }
+    requires { ⌜ (k < 2 ^ 55) × (length (now content) ≤ contentBytes) ⌝ }
     ensures { λ r. ⌜ r ≡ checkOf k (now (content .entry)) ⌝ }
 {
     let mut sum: usize = (k + 1) % MODULUS;
@@ -45,8 +42,8 @@ fn block_right(sheet: &[u8], k: usize) -> bool
     requires { ⌜ Inside (now sheet) k ⌝ }
     ensures { λ r. ⌜ r ≡ blockRight (now (sheet .entry)) k ⌝ }
 {
-    let at = BLOCK * k;
-    let end = at + CONTENT;
+    let at = BLOCK_BYTES * k;
+    let end = at + CONTENT_BYTES;
     let sum = check_of(k, &sheet[at..end]);
     let stored = numbers::u16_at(sheet, end) as usize;
     sum == stored
@@ -56,12 +53,12 @@ fn block_right(sheet: &[u8], k: usize) -> bool
 pub fn block(sheet: &[u8], k: usize) -> &[u8]
     ensures { λ r. ⌜ BlockPart (sheet .entry) k r ⌝ }
 {
-    if sheet.len() / BLOCK <= k {
+    if sheet.len() / BLOCK_BYTES <= k {
         return &sheet[0..0];
     }
     if block_right(sheet, k) {
-        let at = BLOCK * k;
-        let end = at + CONTENT;
+        let at = BLOCK_BYTES * k;
+        let end = at + CONTENT_BYTES;
         return &sheet[at..end];
     }
     &sheet[0..0]
@@ -71,7 +68,7 @@ pub fn block(sheet: &[u8], k: usize) -> &[u8]
 fn checks(sheet: &[u8]) -> Reading
     ensures { λ r. ⌜ saidOf r ≡ checksRefusal (now (sheet .entry)) ⌝ }
 {
-    let n = sheet.len() / BLOCK;
+    let n = sheet.len() / BLOCK_BYTES;
     let mut k = 0;
     while k < n {
         if !block_right(sheet, k) {
@@ -96,13 +93,13 @@ pub fn read_blocks(sheet: &[u8]) -> Reading
             place: 0,
         });
     }
-    if n % BLOCK != 0 {
+    if n % BLOCK_BYTES != 0 {
         return Reading::Refused(Refusal {
             number: 1,
             place: 0,
         });
     }
-    if BLOCK * MOST_BLOCKS < n {
+    if BLOCK_BYTES * MOST_BLOCKS < n {
         return Reading::Refused(Refusal {
             number: 1,
             place: 0,

@@ -1,7 +1,7 @@
 -- The numbers that the check and the tally give in C tell their answers. Assumes nothing.
-use Prim.Native.Nat.{ℕ, _+_, _*_, _/_, _%_, _^_, _≤_, _<_}
+use Prim.Native.Nat.{ℕ, _+_, _*_, _/_, _%_, _^_, _<_}
 use mathlib.Core.Path.{_≡_, refl, sym, ap, ap₂, _∙_}
-use mathlib.Core.Bool.{Bool, true, false, cond}
+use mathlib.Core.Bool.{Bool, false}
 use mathlib.Core.List.{List}
 use mathlib.Core.Option.{Option, none, some}
 use native.Mathlib.Omega.{arith}
@@ -12,11 +12,10 @@ use Rattle.meaning.specs.Cases.{firstFailure, held, failed}
 use Rattle.meaning.proofs.Counts.{case-count, held-failed}
 use Rattle.layout.specs.Limits.{mostNodes}
 use Rattle.layout.specs.Parts.{ruleIn}
-use Rattle.refusals.specs.declared.Reading.{Reading}
 use Rattle.refusals.specs.declared.Reading.the-variants.{Accepted, Refused as Turned}
 use Rattle.refusals.specs.Said.{saidOf}
 use Rattle.cases.specs.declared.Checked.{Checked}
-use Rattle.cases.specs.declared.Checked.the-variants.{Holds, Fails, Refused}
+use Rattle.cases.specs.declared.Checked.the-variants.{Refused}
 use Rattle.cases.specs.declared.Tallied.{Tallied}
 use Rattle.cases.specs.Checks.{tryRefusal, checkRefusal, checkedSaid, verdict, Checks}
 use Rattle.cases.specs.Tallies.{unlessRefused, Tallies}

@@ -15,7 +15,7 @@ use Rattle.wording.specs.Script.{script}
 use Rattle.writer.specs.declared.Written.{Written}
 use Rattle.writer.specs.declared.Written.the-variants.{Refused}
 use Rattle.writer.specs.Writes.{scriptRefusal, writtenSaid, verdict, Writes}
-use Rattle.writer.proofs.LineLaws.{script-short}
+use Rattle.writer.proofs.ScriptLaws.{script-short}
 use Rattle.capi.specs.Codes.{writtenCode, ScriptCodes}
 
 module _ (s : List ℕ) where

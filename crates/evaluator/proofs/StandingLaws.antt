@@ -1,14 +1,12 @@
 -- What a standing row gives: each node's record lies in the sheet, and each node's number has 16 bits. Assumes nothing.
 use Prim.Native.Nat.{ℕ, _+_, _-_, _≤_, _<_}
-use mathlib.Core.Path.{_≡_, refl, sym, _∙_, fun-ext}
+use mathlib.Core.Path.{_≡_, refl, sym, _∙_}
 use mathlib.Core.Bool.{Bool, true, false}
 use mathlib.Core.List.{List}
-use native.Mathlib.Decide.{decLt}
 use native.Mathlib.Omega.{arith}
 use lib.IntN.{ℤ, pos}
 use lib.Signed.{leZ-yes}
-use lib.ListN.{length, take, length-take, List·getD-eq-default}
-use lib.Seq.{getD-take}
+use lib.ListN.{length, take}
 use mir.Syntax.{w32}
 use mir.Val.{toZ, ofZ}
 use mir.Facts.{toZ-ofZ}
@@ -20,6 +18,7 @@ use Rattle.meaning.specs.Tree.{Tree}
 use Rattle.meaning.specs.Value.{value}
 use Rattle.meaning.specs.Rule.{valueIn}
 use Rattle.meaning.specs.Cases.{holds}
+use Rattle.meaning.proofs.Row.{same-values}
 use Rattle.layout.specs.Limits.{nodePlace}
 use Rattle.layout.specs.Goal.{ofSort, treeAt}
 use Rattle.layout.specs.Parts.{nodeCount, variableCount, table, ruleIn}
@@ -59,12 +58,8 @@ module _ {s : List ℕ} {numbers : List ℤ} (ok : Standing s numbers) where
   record-inside l = omega (arith, counted .size)
 
   -- the row gives each variable the same value as its case
-  same-values : valueIn numbers ≡ valueIn (take (variableCount s) numbers)
-  same-values = fun-ext (λ i. by i (decLt i (variableCount s)))
-    where
-      by : (i : ℕ) → Dec (i < variableCount s) → valueIn numbers i ≡ valueIn (take (variableCount s) numbers) i
-      by i (yes h) = sym (getD-take (variableCount s) numbers i (pos 0) h)
-      by i (no h) = ok .zeros i (omega arith) ∙ sym (List·getD-eq-default (take (variableCount s) numbers) (pos 0) {n = i} (rw length-take (omega arith)))
+  as-case : valueIn numbers ≡ valueIn (take (variableCount s) numbers)
+  as-case = same-values (record { zeros = ok .zeros })
 
   -- a node's number by its finding: 0 or 1, or an integer of 16 bits
   by-finding : {n : ℕ} → n < nodeCount s → (f : Finding) → findingAt s n ≡ f → Narrow (numberOf (sortOf f) (value (valueIn (take (variableCount s) numbers)) (ofSort (sortOf f) (treeAt (table s) n))))
@@ -73,7 +68,7 @@ module _ {s : List ℕ} {numbers : List ℤ} (ok : Standing s numbers) where
 
   number-narrow : {n : ℕ} → n < nodeCount s → Narrow (numberAt s numbers n)
   number-narrow {n} l =
-      operand-from (λ (a : Sort) (t : Tree a). Narrow (numberOf a (value (valueIn numbers) t))) (table s) n (sym (finding-sort s n)) (rw same-values (by-finding l (findingAt s n) refl))
+      operand-from (λ (a : Sort) (t : Tree a). Narrow (numberOf a (value (valueIn numbers) t))) (table s) n (sym (finding-sort s n)) (rw as-case (by-finding l (findingAt s n) refl))
 
   pub narrow : {n : ℕ} → n < nodeCount s → {x : ℤ} → x ≡ numberAt s numbers n → Narrow x
   narrow l e = rw e (number-narrow l)
@@ -89,4 +84,4 @@ module _ {s : List ℕ} {numbers : List ℤ} (ok : Standing s numbers) where
   unfolding holds
   goal-holds em {x} ex =
       let goal = operand-as (λ (a : Sort) (t : Tree a). numberAt s numbers (nodeCount s - 1) ≡ numberOf a (value (valueIn numbers) t)) (table s) (nodeCount s - 1) (accepted-sound s (ok .accepted) .goal) refl in
-      rw (word-is goal-below (rw em at ex), goal, ← same-values) (bit-true _)
+      rw (word-is goal-below (rw em at ex), goal, ← as-case) (bit-true _)

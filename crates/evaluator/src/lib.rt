@@ -16,6 +16,7 @@ ghost use Rattle.evaluator.specs.Numbers.{bit, numberOf, isTrue, applied
 ghost use Rattle.evaluator.specs.Standing.{Standing};
 use kinds::Kind;
 use kinds::Shape;
+use layout::MOST_VARIABLES;
 use numbers::NodeNumber;
 use numbers::VariableNumber;
 
@@ -27,7 +28,7 @@ fn constant(value: u16) -> i32
 }
 
 // A variable's value in a case.
-fn variable(case: &[i32; 16], n: VariableNumber) -> i32
+fn variable(case: &[i32; MOST_VARIABLES], n: VariableNumber) -> i32
     requires { ⌜ n .0 < mostVariables ⌝ }
     ensures { λ r. ⌜ r ≡ valueIn (now (case .entry)) (n .0) ⌝ }
 {
@@ -90,7 +91,7 @@ fn apply(kind: Kind, x: i32, y: i32, z: i32) -> i32
 }
 
 // The value of a node in a case, as a number: a truth value is 1 or 0.
-pub fn value(sheet: &[u8], case: &[i32; 16], node: NodeNumber) -> i32
+pub fn value(sheet: &[u8], case: &[i32; MOST_VARIABLES], node: NodeNumber) -> i32
     requires { ⌜ Standing (now sheet) (now case) × (node .0 < nodeCount (now sheet)) ⌝ }
     ensures { λ r. ⌜ r ≡ numberOf (treeAt (table (now (sheet .entry))) (node .0) .0) (Value.value (valueIn (now (case .entry))) (treeAt (table (now (sheet .entry))) (node .0) .1)) ⌝ }
 {
@@ -121,7 +122,7 @@ pub fn value(sheet: &[u8], case: &[i32; 16], node: NodeNumber) -> i32
 }
 
 // Whether the rule holds in a case: the goal, the last node, is true.
-pub fn holds_at(sheet: &[u8], case: &[i32; 16]) -> bool
+pub fn holds_at(sheet: &[u8], case: &[i32; MOST_VARIABLES]) -> bool
     requires { ⌜ Standing (now sheet) (now case) ⌝ }
     ensures { λ r. ⌜ r ≡ holds (ruleIn (now (sheet .entry))) (take (variableCount (now (sheet .entry))) (now (case .entry))) ⌝ }
 {

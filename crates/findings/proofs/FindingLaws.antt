@@ -4,7 +4,7 @@ use mathlib.Core.Path.{_≡_, refl}
 use mathlib.Core.Bool.{Bool, true, false}
 use mathlib.Core.Logic.{_⊎_, inl, inr}
 use native.Mathlib.Omega.{arith}
-use Rattle.lists.proofs.Decided.{Decides, decides-and}
+use Rattle.lists.proofs.Decided.{Decides, always, decides-and}
 use Rattle.numbers.specs.declared.Range.{Range}
 use Rattle.numbers.specs.Two.{dec}
 use Rattle.numbers.specs.Ranges.{_⋯_, NarrowEnds, minusOf, sumOf, differenceOf, productOf, unionOf}
@@ -67,9 +67,6 @@ decides-same truth truth = (λ e. refl, λ e. refl)
 decides-same truth integer = (λ e. cc, λ e. cc)
 decides-same integer truth = (λ e. cc, λ e. cc)
 decides-same integer integer = (λ e. refl, λ e. refl)
-
-always : Decides true (Unit {0})
-always = (λ e. tt, λ u. refl)
 
 module _ (r : Record) (fi : ℕ → Finding) where
   pub decides-sorts : (h : Shape) → Decides (sortsRight h (fi (r .a)) (fi (r .b)) (fi (r .c))) (Sorted (λ j. sortOf (fi j)) (operandsOf h r) (sortsOf h))

@@ -5,7 +5,7 @@ ghost use lib.ListN.{length};
 ghost use Rattle.numbers.specs.Two.{dec};
 ghost use Rattle.numbers.specs.Ranges.{_⋯_, minusOf, sumOf, differenceOf, productOf};
 ghost use Rattle.kinds.specs.declared.Kind;
-ghost use Rattle.layout.specs.Limits.{mostVariables};
+ghost use Rattle.layout.specs.Limits.{blockBytes, mostVariables};
 ghost use Rattle.meaning.specs.Rule.{domainOf};
 ghost use Rattle.layout.specs.Parts.{variableCount, ruleIn};
 ghost use Rattle.findings.specs.declared.Finding;
@@ -146,7 +146,7 @@ fn constant(value: u16) -> Range
 
 // What a node with the record r is found to be, where its fields a, b and c name nodes found to be f, g and h.
 pub fn found(sheet: &[u8], r: Record, f: Finding, g: Finding, h: Finding) -> Step
-    requires { ⌜ (512 ≤ length (now sheet)) × (variableCount (now sheet) ≤ mostVariables) × (r .kind ≡ Kind.Variable → r .a < variableCount (now sheet)) × Fits f × Fits g ⌝ }
+    requires { ⌜ (blockBytes ≤ length (now sheet)) × (variableCount (now sheet) ≤ mostVariables) × (r .kind ≡ Kind.Variable → r .a < variableCount (now sheet)) × Fits f × Fits g ⌝ }
     ensures { λ q. ⌜ q ≡ stepOf (domainOf (ruleIn (now (sheet .entry)))) r f g h ⌝ }
 {
     let k = r.kind;

@@ -26,18 +26,18 @@ module _ (v n : ℕ) where
   gap-listed j h = header-bytes (5 + j) (omega arith) (omega arith)
 
   pub tail-listed : (j : ℕ) → j < contentBytes - variablePlace v → MustBeZero v n (variablePlace v + j)
-  tail-listed j h = go (decLt (variablePlace v + j) 392)
+  tail-listed j h = go (decLt (variablePlace v + j) (variablePlace mostVariables))
     where
-      go : Dec (variablePlace v + j < 392) → MustBeZero v n (variablePlace v + j)
+      go : Dec (variablePlace v + j < variablePlace mostVariables) → MustBeZero v n (variablePlace v + j)
       go (yes l) =
           let p : variablePlace (v + j / 24) + j % 24 ≡ variablePlace v + j = omega arith in
           subst (MustBeZero v n) p (variable-record (v + j / 24) (j % 24) (omega arith) (omega arith) (omega arith))
       go (no l) = past-variables (variablePlace v + j) (omega arith) (omega arith)
 
   pub tails-listed : (b j : ℕ) → b < blocksFor n → j < contentBytes - usedOf b → MustBeZero v n (blockBytes * (b + 1) + usedOf b + j)
-  tails-listed b j l h = go (decLt (usedOf b + j) 496)
+  tails-listed b j l h = go (decLt (usedOf b + j) (nodeBytes * nodesInBlock))
     where
-      go : Dec (usedOf b + j < 496) → MustBeZero v n (blockBytes * (b + 1) + usedOf b + j)
+      go : Dec (usedOf b + j < nodeBytes * nodesInBlock) → MustBeZero v n (blockBytes * (b + 1) + usedOf b + j)
       go (yes w) =
           let q : ℕ = usedOf b + j in
           let m : ℕ = nodesInBlock * b + q / 16 in

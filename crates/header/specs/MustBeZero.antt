@@ -1,12 +1,12 @@
 -- The bytes outside the V variable and N node records that must be zero, row by row as document 01, "The sheet in 512-byte blocks", lists them.
 use Prim.Native.Nat.{ℕ, _+_, _*_, _≤_, _<_}
-use Rattle.layout.specs.Limits.{blockBytes, variableBytes, mostVariables, nodeBytes, nodesInBlock, blocksFor, variablePlace, nodePlace}
+use Rattle.layout.specs.Limits.{blockBytes, contentBytes, variableBytes, mostVariables, nodeBytes, nodesInBlock, blocksFor, variablePlace, nodePlace}
 
 pub data MustBeZero (v n : ℕ) : ℕ → Type 0 where
   -- block 0: bytes 5..7, the variable records from V on, bytes 392..509
   header-bytes : (j : ℕ) → 5 ≤ j → j ≤ 7 → MustBeZero v n j
   variable-record : (i b : ℕ) → v ≤ i → i < mostVariables → b < variableBytes → MustBeZero v n (variablePlace i + b)
-  past-variables : (j : ℕ) → 392 ≤ j → j ≤ 509 → MustBeZero v n j
+  past-variables : (j : ℕ) → variablePlace mostVariables ≤ j → j < contentBytes → MustBeZero v n j
   -- node blocks: the record slots from N on, bytes 496..509
   node-record : (m b : ℕ) → n ≤ m → m < nodesInBlock * blocksFor n → b < nodeBytes → MustBeZero v n (nodePlace m + b)
-  past-nodes : (k b : ℕ) → 1 ≤ k → k ≤ blocksFor n → 496 ≤ b → b ≤ 509 → MustBeZero v n (blockBytes * k + b)
+  past-nodes : (k b : ℕ) → 1 ≤ k → k ≤ blocksFor n → nodeBytes * nodesInBlock ≤ b → b < contentBytes → MustBeZero v n (blockBytes * k + b)

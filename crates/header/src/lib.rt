@@ -2,32 +2,24 @@
 ghost use mathlib.Core.Path.{_≡_};
 ghost use Prim.Native.Nat.{_+_, _*_, _≤_, _<_};
 ghost use lib.ListN.{length};
-ghost use Rattle.layout.specs.Limits.{blocksFor, mostNodes, mostVariables};
+ghost use Rattle.layout.specs.Limits.{blockBytes, contentBytes, mostVariables, mostNodes, blocksFor, mostBlocks};
 ghost use Rattle.layout.specs.Parts.{nodeCount, variableCount};
 ghost use Rattle.refusals.specs.Said.{saidOf};
 ghost use Rattle.header.specs.Header.{zeros, countsRight, usedIn, tailClear, outsideClear, header};
+use layout::BLOCK_BYTES;
+use layout::CONTENT_BYTES;
+use layout::HEADER_BYTES;
+use layout::MOST_NODES;
+use layout::MOST_VARIABLES;
+use layout::NODE_BYTES;
+use layout::NODES_IN_BLOCK;
+use layout::VARIABLE_BYTES;
 use numbers::Refusal;
 use refusals::Reading;
 
-const BLOCK: usize = 512;
-
-const CONTENT: usize = 510;
-
-const HEADER: usize = 8;
-
-const VARIABLE: usize = 24;
-
-const NODE: usize = 16;
-
-const NODES_IN_BLOCK: usize = 31;
-
-const MOST_NODES: usize = 248;
-
-const MOST_VARIABLES: usize = 16;
-
 // N, the number of nodes.
 pub fn node_count(sheet: &[u8]) -> usize
-    requires { ⌜ 512 ≤ length (now sheet) ⌝ }
+    requires { ⌜ blockBytes ≤ length (now sheet) ⌝ }
     ensures { λ r. ⌜ r ≡ nodeCount (now (sheet .entry)) ⌝ }
 {
     numbers::u16_at(sheet, 2) as usize
@@ -35,7 +27,7 @@ pub fn node_count(sheet: &[u8]) -> usize
 
 // V, the number of variables.
 pub fn variable_count(sheet: &[u8]) -> usize
-    requires { ⌜ 512 ≤ length (now sheet) ⌝ }
+    requires { ⌜ blockBytes ≤ length (now sheet) ⌝ }
     ensures { λ r. ⌜ r ≡ variableCount (now (sheet .entry)) ⌝ }
 {
     numbers::byte_at(sheet, 4) as usize
@@ -58,7 +50,7 @@ pub fn clear(sheet: &[u8], at: usize, n: usize) -> bool
 
 // Whether the counts and the length keep their rules.
 fn counts_right(sheet: &[u8]) -> bool
-    requires { ⌜ 512 ≤ length (now sheet) ⌝ }
+    requires { ⌜ blockBytes ≤ length (now sheet) ⌝ }
     ensures { λ r. ⌜ r ≡ countsRight (now (sheet .entry)) ⌝ }
 {
     let n = node_count(sheet);
@@ -72,16 +64,16 @@ fn counts_right(sheet: &[u8]) -> bool
     if MOST_VARIABLES < v {
         return false;
     }
-    sheet.len() == BLOCK * ((n + 30) / NODES_IN_BLOCK + 1)
+    sheet.len() == BLOCK_BYTES * ((n + 30) / NODES_IN_BLOCK + 1)
 }
 
 // Where the used bytes of block k end.
 fn used_in(sheet: &[u8], k: usize) -> usize
-    requires { ⌜ (512 ≤ length (now sheet)) × (variableCount (now sheet) ≤ mostVariables) × (nodeCount (now sheet) ≤ mostNodes) × (k < 9) ⌝ }
-    ensures { λ r. ⌜ (r ≡ usedIn (now (sheet .entry)) k) × (r ≤ 510) ⌝ }
+    requires { ⌜ (blockBytes ≤ length (now sheet)) × (variableCount (now sheet) ≤ mostVariables) × (nodeCount (now sheet) ≤ mostNodes) × (k < mostBlocks) ⌝ }
+    ensures { λ r. ⌜ (r ≡ usedIn (now (sheet .entry)) k) × (r ≤ contentBytes) ⌝ }
 {
     if k == 0 {
-        return HEADER + VARIABLE * variable_count(sheet);
+        return HEADER_BYTES + VARIABLE_BYTES * variable_count(sheet);
     }
     let n = node_count(sheet);
     let before = NODES_IN_BLOCK * (k - 1);
@@ -89,29 +81,29 @@ fn used_in(sheet: &[u8], k: usize) -> usize
         return 0;
     }
     if NODES_IN_BLOCK <= n - before {
-        return NODE * NODES_IN_BLOCK;
+        return NODE_BYTES * NODES_IN_BLOCK;
     }
-    NODE * (n - before)
+    NODE_BYTES * (n - before)
 }
 
 // Whether the content of block k is zero behind the used bytes.
 fn tail_clear(sheet: &[u8], k: usize) -> bool
-    requires { ⌜ (512 * k + 512 ≤ length (now sheet)) × (variableCount (now sheet) ≤ mostVariables) × (nodeCount (now sheet) ≤ mostNodes) × (k < 9) ⌝ }
+    requires { ⌜ (blockBytes * k + blockBytes ≤ length (now sheet)) × (variableCount (now sheet) ≤ mostVariables) × (nodeCount (now sheet) ≤ mostNodes) × (k < mostBlocks) ⌝ }
     ensures { λ r. ⌜ r ≡ tailClear (now (sheet .entry)) k ⌝ }
 {
     let used = used_in(sheet, k);
-    clear(sheet, BLOCK * k + used, CONTENT - used)
+    clear(sheet, BLOCK_BYTES * k + used, CONTENT_BYTES - used)
 }
 
 // Whether the bytes outside the records are zero.
 fn outside_clear(sheet: &[u8]) -> bool
-    requires { ⌜ (length (now sheet) ≡ 512 * (blocksFor (nodeCount (now sheet)) + 1)) × (variableCount (now sheet) ≤ mostVariables) × (nodeCount (now sheet) ≤ mostNodes) ⌝ }
+    requires { ⌜ (length (now sheet) ≡ blockBytes * (blocksFor (nodeCount (now sheet)) + 1)) × (variableCount (now sheet) ≤ mostVariables) × (nodeCount (now sheet) ≤ mostNodes) ⌝ }
     ensures { λ r. ⌜ r ≡ outsideClear (now (sheet .entry)) ⌝ }
 {
     if !clear(sheet, 5, 3) {
         return false;
     }
-    let n = sheet.len() / BLOCK;
+    let n = sheet.len() / BLOCK_BYTES;
     let mut k = 0;
     while k < n {
         if !tail_clear(sheet, k) {
@@ -124,7 +116,7 @@ fn outside_clear(sheet: &[u8]) -> bool
 
 // Refusals 3 and 4.
 pub fn read_header(sheet: &[u8]) -> Reading
-    requires { ⌜ 512 ≤ length (now sheet) ⌝ }
+    requires { ⌜ blockBytes ≤ length (now sheet) ⌝ }
     ensures { λ r. ⌜ saidOf r ≡ header (now (sheet .entry)) ⌝ }
 {
     if numbers::u16_at(sheet, 0) != 1 {

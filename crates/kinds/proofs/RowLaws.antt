@@ -4,10 +4,8 @@ use Rattle.meaning.specs.declared.Sort.{Sort}
 use Rattle.meaning.specs.Tree.{Tree}
 use Rattle.kinds.specs.declared.Kind.{Kind}
 use Rattle.kinds.specs.declared.Kind.the-variants.{Unknown, True, False, Not, And, Or, Implies, Iff, Equal, Less, AtMost, Constant, Variable, Minus, Sum, Difference, Product, If}
-use Rattle.kinds.specs.declared.Shape.{Shape}
-use Rattle.kinds.specs.declared.Shape.the-variants.{Wrong, Bare, Valued, Named, One, Two, Three}
 use Rattle.kinds.specs.Kinds.{row}
-use Rattle.kinds.specs.Rows.{Args, make, Known, Each, by-rows, eachOf, together, Throughout}
+use Rattle.kinds.specs.Rows.{Args, make, Known, Each, by-rows, eachOf}
 
 module _ {ℓ} (P : (s : Sort) → Tree s → Type ℓ) where
   module _ (step : (k : Kind) → Known (row k .shape) → (x : Args (row k .shape)) → Each P (row k .shape) x → P (row k .gives) (make k x)) where
@@ -31,8 +29,3 @@ module _ {ℓ} (P : (s : Sort) → Tree s → Type ℓ) where
     rows-make Difference q x = refl
     rows-make Product q x = refl
     rows-make If q x = refl
-
-pub throughout-make : (Q : (s : Sort) → Tree s → Type 0) (k : Kind) → Known (row k .shape) → (x : Args (row k .shape))
-    → Throughout Q (make k x) ≡ (Q (row k .gives) (make k x) × together (row k .shape) x (eachOf (λ s t. Type 0) (λ s t. Throughout Q t) (row k .shape) x))
-unfolding Throughout
-throughout-make Q k q x = rows-make (λ s u. Type 0) (λ k q x y. Q (row k .gives) (make k x) × together (row k .shape) x y) k q x

@@ -1,8 +1,6 @@
 -- What induction by shapes gives of a tree that is made of a kind, from what it gives of the operands. Assumes nothing.
 use Prim.Native.Nat.{ℕ}
 use mathlib.Core.Path.{_≡_}
-use Rattle.meaning.specs.declared.Sort.{Sort}
-use Rattle.meaning.specs.Tree.{Tree}
 use Rattle.kinds.specs.declared.Kind.{Kind}
 use Rattle.kinds.specs.declared.Shape.{Shape}
 use Rattle.kinds.specs.Kinds.{row}

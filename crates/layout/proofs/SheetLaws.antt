@@ -15,7 +15,7 @@ use Rattle.numbers.proofs.Bytes16.{u16-lt, enc16-dec16}
 use Rattle.meaning.specs.Rule.{Variable}
 use Rattle.kinds.specs.declared.Record.{Record}
 use Rattle.kinds.specs.Rows.{Known}
-use Rattle.layout.specs.Limits.{blockBytes, contentBytes, variableBytes, nodeBytes, nodesInBlock, blocksFor, variablePlace, nodePlace}
+use Rattle.layout.specs.Limits.{blockBytes, contentBytes, variableBytes, nameStart, nameField, nodeBytes, nodesInBlock, blocksFor, variablePlace, nodePlace}
 use Rattle.layout.specs.Checks.{content, sealed}
 use Rattle.layout.specs.Starts.{shapeAt}
 use Rattle.layout.specs.Parts.{nodeCount, variableCount, nameSize, nameIn, variableIn, variableAt, recordIn, table, ruleIn, Zeros, VariableLaidOut, LaidOut}
@@ -77,8 +77,8 @@ module _ (s : List ℕ) where
         let e : length (nameIn s i) ≡ n = rw (length-take, length-drop) (omega arith) in
         let g : i + 4 + 1 ≡ i + 5 = omega arith in
         let p : Run (byteAt s) (i + 4) (n ∷ 0 ∷ []) (i + 6) = shift (two-bytes refl (ap (byteAt s) g ∙ v .gap)) refl (omega arith) in
-        let q : Run (byteAt s) (i + 6) (nameIn s i) (i + 6 + n) = run-part s 0 (i + 6) n (omega arith) in
-        let r : Run (byteAt s) (i + 6 + n) (replicate (18 - n) 0) (i + variableBytes) = shift (run-zeros (18 - n) (i + 6 + n) (v .rest)) refl (omega arith) in
+        let q : Run (byteAt s) (i + 6) (nameIn s i) (i + nameStart + n) = run-part s 0 (i + 6) n (omega arith) in
+        let r : Run (byteAt s) (i + nameStart + n) (replicate (nameField - n) 0) (i + variableBytes) = shift (run-zeros (nameField - n) (i + nameStart + n) (v .rest)) refl (omega arith) in
         rw e
         (run-append (byteAt s) (end-at i (i + 2) refl)
         (run-append (byteAt s) (end-at (i + 2) (i + 4) (omega arith))

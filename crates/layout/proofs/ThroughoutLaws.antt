@@ -1,18 +1,15 @@
 -- A claim holds throughout the goal's tree exactly where it holds of every node's tree. Assumes nothing.
-use Prim.Native.Nat.{ℕ, zero, suc, _+_, _-_, _≤_, _<_}
-use mathlib.Core.Path.{_≡_, refl, sym, ap, subst, _∙_}
+use Prim.Native.Nat.{ℕ, zero, suc, _-_, _≤_, _<_}
+use mathlib.Core.Path.{_≡_, sym, subst}
 use native.Mathlib.Decide.{decLt, ℕ-discrete}
 use native.Mathlib.Omega.{arith}
 use Rattle.meaning.specs.declared.Sort.{Sort}
-use Rattle.meaning.specs.declared.Sort.the-variants.{Truth}
 use Rattle.meaning.specs.Tree.{Tree}
-use Rattle.kinds.specs.declared.Kind.{Kind}
 use Rattle.kinds.specs.declared.Record.{Record}
 use Rattle.kinds.specs.declared.Shape.{Shape}
 use Rattle.kinds.specs.declared.Shape.the-variants.{Wrong, Bare, Valued, Named, One, Two, Three}
-use Rattle.kinds.specs.Kinds.{row}
-use Rattle.kinds.specs.Rows.{Args, make, eachOf, together, Throughout}
-use Rattle.kinds.proofs.RowLaws.{throughout-make}
+use Rattle.kinds.specs.Rows.{Throughout}
+use Rattle.kinds.proofs.ClaimLaws.{Parts, throughout-make}
 use Rattle.layout.specs.Starts.{shapeAt, sortAt, operandsOf, sortsOf, startBy, startAt, Ordered, Sorted, Placed, Typed}
 use Rattle.layout.specs.Goal.{ofSort, argsOf, treeAt, goalOf, Sound}
 use Rattle.layout.proofs.StartLaws.{Before, lower, start-is}
@@ -26,25 +23,25 @@ module _ (Q : (s : Sort) → Tree s → Type 0) {f : ℕ → Record} {v N : ℕ}
   abbrev All : ℕ → Type 0
   All n = Throughout Q (treeAt f n .1)
 
-  abbrev parts : ℕ → Type 0
-  parts n = together (shapeAt (f n)) (argsOf (shapeAt (f n)) (f n) (treeAt f)) (eachOf (λ s t. Type 0) (λ s t. Throughout Q t) (shapeAt (f n)) (argsOf (shapeAt (f n)) (f n) (treeAt f)))
+  -- throughout the operands of node n, by its shape
+  abbrev Under : Shape → ℕ → Type 0
+  Under h n = Parts Q h (argsOf h (f n) (treeAt f))
 
   -- a claim throughout a node's tree is the claim of the tree itself and throughout its operands
-  opened : (n : ℕ) → n < N → All n → Here n × parts n
+  opened : (n : ℕ) → n < N → All n → Here n × Under (shapeAt (f n)) n
   opened n l h =
       let p = placed n l in
       let e = throughout-make Q (f n .kind) (p .known) (argsOf (shapeAt (f n)) (f n) (treeAt f)) in
       rw (tree-is f n (lower p)) (rw e at (rw (tree-is f n (lower p)) at h))
 
-  closed : (n : ℕ) → n < N → Here n → parts n → All n
+  closed : (n : ℕ) → n < N → Here n → Under (shapeAt (f n)) n → All n
   closed n l q h =
       let p = placed n l in
       let e = throughout-make Q (f n .kind) (p .known) (argsOf (shapeAt (f n)) (f n) (treeAt f)) in
       rw (tree-is f n (lower p)) (rw e ((rw (tree-is f n (lower p)) at q), h))
 
   -- ---- from every node to the goal
-  join : (h : Shape) (n : ℕ) → Before n (operandsOf h (f n)) → Sorted (sortAt f) (operandsOf h (f n)) (sortsOf h) → ((j : ℕ) → j < n → All j)
-      → together h (argsOf h (f n) (treeAt f)) (eachOf (λ s t. Type 0) (λ s t. Throughout Q t) h (argsOf h (f n) (treeAt f)))
+  join : (h : Shape) (n : ℕ) → Before n (operandsOf h (f n)) → Sorted (sortAt f) (operandsOf h (f n)) (sortsOf h) → ((j : ℕ) → j < n → All j) → Under h n
   join Wrong n b t all = tt
   join Bare n b t all = tt
   join Valued n b t all = tt
@@ -67,7 +64,7 @@ module _ (Q : (s : Sort) → Tree s → Type 0) {f : ℕ → Record} {v N : ℕ}
 
   -- a node of the subtree, before its root, is a node of an operand's subtree
   split : (h : Shape) (n : ℕ) → Ordered (startAt f) n (operandsOf h (f n)) → Sorted (sortAt f) (operandsOf h (f n)) (sortsOf h)
-      → together h (argsOf h (f n) (treeAt f)) (eachOf (λ s t. Type 0) (λ s t. Throughout Q t) h (argsOf h (f n) (treeAt f)))
+      → Under h n
       → ((a : ℕ) → a < n → All a → (j : ℕ) → startAt f a ≤ j → j ≤ a → Here j) → Before n (operandsOf h (f n))
       → (j : ℕ) → startBy h (f n) n (startAt f) ≤ j → j < n → Here j
   split Wrong n o t w all b j l g = absurd (omega arith)

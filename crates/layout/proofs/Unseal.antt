@@ -18,7 +18,7 @@ use Rattle.meaning.specs.Rule.{Variable}
 use Rattle.kinds.specs.declared.Record.{Record}
 use Rattle.kinds.specs.Kinds.{kindOf}
 use Rattle.kinds.specs.Rows.{Known}
-use Rattle.layout.specs.Limits.{blockBytes, contentBytes}
+use Rattle.layout.specs.Limits.{blockBytes, contentBytes, nameStart, nameField}
 use Rattle.layout.specs.Checks.{checkOf, storedCheck, sealed}
 use Rattle.layout.specs.Starts.{shapeAt}
 use Rattle.layout.specs.Parts.{nameSize, nameIn, variableIn, recordIn, Zeros, VariableLaidOut}
@@ -94,7 +94,7 @@ module _ (s : List ℕ) where
   variable-of v i {e} f l run =
       let n : ℕ = length (v .name) in
       let short = f .short in
-      let z : List ℕ = replicate (18 - n) 0 in
+      let z : List ℕ = replicate (nameField - n) 0 in
       let low : List ℕ = pair (enc 16 (v .domain .low)) in
       let high : List ℕ = pair (enc 16 (v .domain .high)) in
       let p = run-split (byteAt s) {xs = low} {ys = high ++ ((n ∷ 0 ∷ []) ++ (v .name ++ z))} run in
@@ -102,13 +102,13 @@ module _ (s : List ℕ) where
       let o = run-split (byteAt s) {xs = n ∷ 0 ∷ []} {ys = v .name ++ z} (q .1) in
       let t = run-split (byteAt s) {xs = v .name} {ys = z} (o .1) in
       let head : Run (byteAt s) (i + 4) (n ∷ 0 ∷ []) (i + 6) = shift (o .0) (omega arith) (omega arith) in
-      let name : Run (byteAt s) (i + 6) (v .name) (i + 6 + n) = shift (t .0) (omega arith) (omega arith) in
-      let rest : Run (byteAt s) (i + 6 + n) z e = shift (t .1) (omega arith) refl in
+      let name : Run (byteAt s) (i + 6) (v .name) (i + nameStart + n) = shift (t .0) (omega arith) (omega arith) in
+      let rest : Run (byteAt s) (i + nameStart + n) z e = shift (t .1) (omega arith) refl in
       let en : nameSize s i ≡ n = head .each .0 in
       let next : i + 5 ≡ suc (i + 4) = omega arith in
       let a = ap (dec 16) (pair-of (p .0)) ∙ dec16-enc16 (f .ends .low) in
       let b = ap (dec 16) (pair-of (q .0)) ∙ dec16-enc16 (f .ends .high) in
       let c : nameIn s i ≡ v .name = rw en (part-is s 0 name (omega (arith, rest .end))) in (
-        record { short = rw en short; gap = ap (byteAt s) next ∙ head .each .1 .0; rest = rw en (zeros-of (18 - n) (i + 6 + n) rest) },
+        record { short = rw en short; gap = ap (byteAt s) next ∙ head .each .1 .0; rest = rw en (zeros-of (nameField - n) (i + nameStart + n) rest) },
         λ d. record { name = c d; domain = a d ⋯ b d },
       )

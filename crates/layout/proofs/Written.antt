@@ -16,7 +16,7 @@ use Rattle.kinds.specs.declared.Record.{Record}
 use Rattle.kinds.specs.declared.Shape.{Shape}
 use Rattle.kinds.specs.declared.Shape.the-variants.{Wrong, Bare, Valued, Named, One, Two, Three}
 use Rattle.kinds.specs.Rows.{Known}
-use Rattle.layout.specs.Limits.{blockBytes, contentBytes, variableBytes}
+use Rattle.layout.specs.Limits.{blockBytes, contentBytes, variableBytes, nameField}
 use Rattle.layout.specs.Checks.{checkOf, sealed}
 use Rattle.layout.specs.Starts.{shapeAt, operandsOf, unusedOf, Listed, Placed}
 use Rattle.layout.specs.Sheet.{recordBytes, variableRecord, joined, filled}
@@ -75,9 +75,9 @@ bytes-sealed c h (suc m) k =
 pub bytes-variable : (v : Variable) → FineVariable v → Bytes (variableRecord v)
 bytes-variable v f =
     let n : ℕ = length (v .name) in
-    let z : List ℕ = replicate (18 - n) 0 in
+    let z : List ℕ = replicate (nameField - n) 0 in
     let h = f .short in
-    let t : Bytes (n ∷ 0 ∷ (v .name ++ z)) = bytes-cons (0 ∷ (v .name ++ z)) (omega arith) (bytes-cons (v .name ++ z) (lit< tt) (bytes-append (v .name) z (f .bytes) (bytes-zeros (18 - n)))) in
+    let t : Bytes (n ∷ 0 ∷ (v .name ++ z)) = bytes-cons (0 ∷ (v .name ++ z)) (omega arith) (bytes-cons (v .name ++ z) (lit< tt) (bytes-append (v .name) z (f .bytes) (bytes-zeros (nameField - n)))) in
     bytes-append (pair (enc 16 (v .domain .low))) (pair (enc 16 (v .domain .high)) ++ (n ∷ 0 ∷ (v .name ++ z))) (bytes-pair (enc16-lt (v .domain .low)))
     (bytes-append (pair (enc 16 (v .domain .high))) (n ∷ 0 ∷ (v .name ++ z)) (bytes-pair (enc16-lt (v .domain .high))) t)
 
@@ -126,4 +126,4 @@ length-sealed c h (suc m) k =
     rw (length-append (c k ++ pair (checkOf k (c k))) (sealed (suc k) (from c (suc k) m)), length-append (c k) (pair (checkOf k (c k)))) (omega arith)
 
 pub length-variable : (v : Variable) → FineVariable v → length (variableRecord v) ≡ variableBytes
-length-variable v f = let h = f .short in rw (length-append (v .name) (replicate (18 - length (v .name)) 0), length-replicate) (omega arith)
+length-variable v f = let h = f .short in rw (length-append (v .name) (replicate (nameField - length (v .name)) 0), length-replicate) (omega arith)

@@ -1,5 +1,5 @@
 -- The sizes and limits of document 01, "The sheet in 512-byte blocks", each named once.
-use Prim.Native.Nat.{ℕ, _+_, _*_, _/_, _%_}
+use Prim.Native.Nat.{ℕ, _+_, _-_, _*_, _/_, _%_}
 
 -- a block, and the bytes of it that are no check
 abbrev pub blockBytes : ℕ
@@ -18,6 +18,13 @@ variableBytes = 24
 
 abbrev pub mostNameBytes : ℕ
 mostNameBytes = 16
+
+-- where a name starts in its record, and the bytes from there to the record's end
+abbrev pub nameStart : ℕ
+nameStart = 6
+
+abbrev pub nameField : ℕ
+nameField = variableBytes - nameStart
 
 abbrev pub mostVariables : ℕ
 mostVariables = 16

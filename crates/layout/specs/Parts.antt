@@ -10,7 +10,7 @@ use Rattle.numbers.specs.Ranges.{_⋯_}
 use Rattle.meaning.specs.Rule.{Variable, Rule}
 use Rattle.kinds.specs.declared.Record.{Record}
 use Rattle.kinds.specs.Kinds.{kindOf}
-use Rattle.layout.specs.Limits.{blockBytes, contentBytes, mostNameBytes, mostVariables, nodeBytes, nodesInBlock, mostNodes, blocksFor, headerBytes, variableBytes, variablePlace, nodePlace}
+use Rattle.layout.specs.Limits.{blockBytes, contentBytes, mostNameBytes, nameStart, nameField, mostVariables, nodeBytes, nodesInBlock, mostNodes, blocksFor, variablePlace, nodePlace}
 use Rattle.layout.specs.Checks.{blockRight}
 use Rattle.layout.specs.Goal.{goalOf, Sound}
 
@@ -29,7 +29,7 @@ abbrev pub nameSize : List ℕ → ℕ → ℕ
 nameSize s i = byteAt s (i + 4)
 
 abbrev pub nameIn : List ℕ → ℕ → List ℕ
-nameIn s i = take (nameSize s i) (drop (i + 6) s)
+nameIn s i = take (nameSize s i) (drop (i + nameStart) s)
 
 abbrev pub variableIn : List ℕ → ℕ → Variable
 variableIn s i = record { name = nameIn s i; domain = i16At s i ⋯ i16At s (i + 2) }
@@ -69,7 +69,7 @@ usedInNodeBlock s b = nodeBytes * min nodesInBlock (nodeCount s - nodesInBlock *
 pub record VariableLaidOut (s : List ℕ) (i : ℕ) : Type 0 where
   pub short : nameSize s i ≤ mostNameBytes
   pub gap : byteAt s (i + 5) ≡ 0
-  pub rest : Zeros s (i + 6 + nameSize s i) (18 - nameSize s i)
+  pub rest : Zeros s (i + nameStart + nameSize s i) (nameField - nameSize s i)
 
 -- a sheet that is laid out right; what the rule itself must meet beyond that is no part of the layout
 pub record LaidOut (s : List ℕ) : Type 0 where

@@ -8,7 +8,7 @@ use Rattle.numbers.specs.Bytes.{pair}
 use Rattle.meaning.specs.Rule.{Variable, Rule}
 use Rattle.kinds.specs.declared.Record.{Record}
 use Rattle.kinds.specs.Kinds.{row}
-use Rattle.layout.specs.Limits.{contentBytes, nodesInBlock, blocksFor}
+use Rattle.layout.specs.Limits.{contentBytes, nameField, nodesInBlock, blocksFor}
 use Rattle.layout.specs.Checks.{sealed}
 use Rattle.layout.specs.Nodes.{nodesOf}
 
@@ -18,7 +18,7 @@ recordBytes r = (row (r .kind) .byte ∷ 0 ∷ []) ++ (pair (r .a) ++ (pair (r .
 
 -- a variable record's 24 bytes
 abbrev pub variableRecord : Variable → List ℕ
-variableRecord v = pair (enc 16 (v .domain .low)) ++ (pair (enc 16 (v .domain .high)) ++ ((length (v .name) ∷ 0 ∷ []) ++ (v .name ++ replicate (18 - length (v .name)) 0)))
+variableRecord v = pair (enc 16 (v .domain .low)) ++ (pair (enc 16 (v .domain .high)) ++ ((length (v .name) ∷ 0 ∷ []) ++ (v .name ++ replicate (nameField - length (v .name)) 0)))
 
 abbrev pub joined : {A : Type 0} → (A → List ℕ) → List A → List ℕ
 joined g [] = []

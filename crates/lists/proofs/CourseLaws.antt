@@ -1,6 +1,6 @@
 -- Laws of course-of-values recursion. Assumes nothing.
 use Prim.Native.Nat.{ℕ, zero, suc, _≤_, _<_}
-use mathlib.Core.Path.{_≡_, refl, _∙_, ap, sym, subst, fun-ext}
+use mathlib.Core.Path.{_≡_, refl, _∙_, ap, sym, fun-ext}
 use mathlib.Core.Logic.{⊎-elim, _⊎_, inl, inr}
 use mathlib.Core.List.{List}
 use lib.ListN.{length, getD, set, replicate}

@@ -46,6 +46,10 @@ module _ {t : Bool} {P : Type 0} (d : Decides t P) where
         right true q = refl
         right false q = q
 
+-- what asks nothing
+pub always : Decides true (Unit {0})
+always = (λ e. tt, λ u. refl)
+
 pub decides-le : (a b : ℕ) → Decides (leb a b) (a ≤ b)
 decides-le a b = (leb-true a b, le-leb a b)
 

@@ -1,33 +1,28 @@
 -- The reading of the nodes: what is known before each turn of its loop, and what a turn makes of it. Assumes nothing.
-use Prim.Native.Nat.{ℕ, zero, suc, _+_, _-_, _*_, _/_, _%_, _≤_, _<_}
-use mathlib.Core.Path.{_≡_, refl, sym, ap, ap₂, subst, _∙_}
+use Prim.Native.Nat.{ℕ, _+_, _-_, _≤_, _<_}
+use mathlib.Core.Path.{_≡_, refl, sym, ap, ap₂, _∙_}
 use mathlib.Core.Logic.{⊎-elim}
-use mathlib.Core.Bool.{Bool, true, false, true≢false, false≢true}
-use mathlib.Core.List.{List, [], _∷_}
-use mathlib.Core.Option.{Option, none, some}
+use mathlib.Core.Bool.{Bool, true, false}
+use mathlib.Core.List.{List}
+use mathlib.Core.Option.{none, some}
 use native.Mathlib.Nat.{zero-add}
 use native.Mathlib.Numerals.{add-one}
 use native.Mathlib.Decide.{decLt}
 use native.Mathlib.Omega.{arith}
-use lib.ListN.{length, getD, set, replicate, length-set}
+use lib.ListN.{length, set, replicate, length-set}
 use Rattle.lists.specs.Places.{at}
 use Rattle.lists.specs.Course.{below, course}
-use Rattle.lists.specs.First.{_otherwise_, first}
 use Rattle.lists.proofs.CourseLaws.{below-is, below-past, filled-none, filled-more}
 use Rattle.lists.proofs.FirstLaws.{neither, otherwise-none, otherwise-some, none-first, some-first}
-use Rattle.lists.proofs.TestLaws.{both, and}
-use Rattle.numbers.specs.declared.Refusal.{Refusal}
-use Rattle.meaning.specs.declared.Sort.{Sort}
 use Rattle.kinds.specs.declared.Kind.the-variants.{Variable}
 use Rattle.kinds.specs.declared.Record.{Record}
 use Rattle.kinds.specs.declared.Shape.{Shape}
 use Rattle.kinds.specs.declared.Shape.the-variants.{Wrong, Bare, Valued, Named, One, Two, Three}
-use Rattle.layout.specs.Limits.{nodePlace, mostNodes, mostVariables}
+use Rattle.layout.specs.Limits.{blockBytes, mostVariables, mostNodes, nodePlace}
 use Rattle.layout.specs.Starts.{shapeAt, sortAt, operandsOf, sortsOf, startBy, startStep, startAt}
 use Rattle.layout.specs.Parts.{nodeCount, variableCount, table}
-use Rattle.layout.specs.Fold.{foundBy, nodeStep, ofNode}
+use Rattle.layout.specs.Fold.{nodeStep, ofNode}
 use Rattle.layout.proofs.StartLaws.{Before}
-use Rattle.refusals.specs.Said.{unless}
 use Rattle.refusals.proofs.SaidLaws.{unless-none, unless-true, unless-false}
 use Rattle.header.specs.Header.{Counted}
 use Rattle.order.specs.Order.{placed, Falling}
@@ -37,7 +32,7 @@ use Rattle.findings.specs.declared.Finding.the-variants.{Truth}
 use Rattle.findings.specs.declared.Step.{Step}
 use Rattle.findings.specs.declared.Step.the-variants.{Good, Bad}
 use Rattle.findings.specs.Findings.{sortOf, findingOf, fitting, Fits}
-use Rattle.findings.specs.Steps.{sameSort, sortsRight, foundFrom, stepOf}
+use Rattle.findings.specs.Steps.{sortsRight, foundFrom, stepOf}
 use Rattle.findings.proofs.FindingLaws.{found-sort, fits-of, found-from, good-step, bad-step}
 use Rattle.nodes.specs.Nodes.{domainAt, findingAt, areSorted, typed, nodeRefusal, goalRefusal, goalAt, nodes}
 
@@ -56,13 +51,13 @@ pub record Going (s : List ℕ) (n v : ℕ) (starts : List ℕ) (findings : List
   pub nodes-are : n ≡ nodeCount s
   pub variables-are : v ≡ variableCount s
   pub le : i ≤ n
-  pub starts-size : length starts ≡ 248
-  pub findings-size : length findings ≡ 248
+  pub starts-size : length starts ≡ mostNodes
+  pub findings-size : length findings ≡ mostNodes
   pub starts-are : at 0 starts ≡ below 0 (startStep (table s)) i
   pub findings-are : at Truth findings ≡ below Truth (step s) i
   pub passed : (j : ℕ) → j < i → nodeRefusal s j ≡ none
 
-pub begin : {s : List ℕ} {n v : ℕ} → Counted s → n ≡ nodeCount s → v ≡ variableCount s → Going s n v (replicate 248 0) (replicate 248 Truth) 0
+pub begin : {s : List ℕ} {n v : ℕ} → Counted s → n ≡ nodeCount s → v ≡ variableCount s → Going s n v (replicate mostNodes 0) (replicate mostNodes Truth) 0
 begin {s} c en ev = record {
   counted = c;
   nodes-are = en;
@@ -71,7 +66,7 @@ begin {s} c en ev = record {
   starts-size = refl;
   findings-size = refl;
   starts-are = filled-none 0 (startStep (table s)) 248;
-  findings-are = filled-none Truth (step s) 248;
+  findings-are = filled-none Truth (step s) mostNodes;
   passed = λ j h. absurd (omega arith);
 }
 
@@ -142,7 +137,7 @@ module _ {s : List ℕ} {n v : ℕ} {starts : List ℕ} {findings : List Finding
       bounded = lower-than (λ j l. falling j l) (omega (arith, g .counted .most, g .nodes-are)) (rw (g .variables-are) (g .counted .few)) (sym eq ∙ p)
 
       -- what the finding of node i asks
-      pub found-ready : (512 ≤ length s) × (variableCount s ≤ mostVariables) × (r .kind ≡ Variable → r .a < variableCount s) × Fits (fi (r .a)) × Fits (fi (r .b))
+      pub found-ready : (blockBytes ≤ length s) × (variableCount s ≤ mostVariables) × (r .kind ≡ Variable → r .a < variableCount s) × Fits (fi (r .a)) × Fits (fi (r .b))
       found-ready =
           let z = g .counted .size in
           (omega arith, g .counted .few, λ e. rw (g .variables-are) at (bounded .variable e), all-fit (r .a), all-fit (r .b))

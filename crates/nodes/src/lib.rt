@@ -6,6 +6,7 @@ ghost use Rattle.findings.specs.Findings.{sortOf};
 ghost use Rattle.nodes.specs.Nodes.{nodes, goalRefusal};
 use findings::Finding;
 use findings::Step;
+use layout::MOST_NODES;
 use numbers::NodeNumber;
 use numbers::Refusal;
 use refusals::Reading;
@@ -30,9 +31,9 @@ pub fn read_nodes(sheet: &[u8]) -> Reading
 {
     let n = header::node_count(sheet);
     let v = header::variable_count(sheet);
-    let mut starts = [0u16; 248];
+    let mut starts = [0u16; MOST_NODES];
     let truth = Finding::Truth;
-    let mut findings = [truth; 248];
+    let mut findings = [truth; MOST_NODES];
     let mut i: usize = 0;
     while i < n {
         let node = i as u16;

@@ -9,20 +9,18 @@ use borrow.Author.Tests.{eqb-true, eq-eqb, ne-eqb, ltb-true, lt-ltb}
 use lib.Dec.{eqb}
 use Rattle.lists.specs.Course.{below, course}
 use Rattle.lists.proofs.CourseLaws.{below-is, below-past}
-use Rattle.lists.proofs.Decided.{Decides, decides-as, decides-and, decides-eq}
+use Rattle.lists.proofs.Decided.{Decides, always, decides-as, decides-and, decides-eq}
 use Rattle.kinds.specs.declared.Kind.the-variants.{Variable}
 use Rattle.kinds.specs.declared.Record.{Record}
 use Rattle.kinds.specs.declared.Shape.{Shape}
 use Rattle.kinds.specs.declared.Shape.the-variants.{Wrong, Bare, Valued, Named, One, Two, Three}
 use Rattle.kinds.specs.Rows.{Known}
+use Rattle.layout.specs.Limits.{mostVariables, mostNodes}
 use Rattle.layout.specs.Starts.{shapeAt, operandsOf, unusedOf, startBy, startStep, startAt, Ordered, Listed, Placed}
 use Rattle.layout.proofs.StartLaws.{start-low, Before}
 use Rattle.order.specs.Order.{isKnown, inOrder, isListed, placed}
 
 -- ---- each test and what it decides
-always : Decides true (Unit {0})
-always = (λ e. tt, λ u. refl)
-
 pub decides-known : (h : Shape) → Decides (isKnown h) (Known h)
 decides-known Wrong = (λ e. absurd (false≢true e), λ k. absurd k)
 decides-known Bare = always
@@ -123,9 +121,9 @@ module _ {n : ℕ} {st st′ : ℕ → ℕ} (same : (j : ℕ) → j < n → st j
 -- ---- what the test bounds
 -- the numbers that a record holds, where its operands are below 248 and its variable below v
 pub record Bounded (r : Record) (v : ℕ) : Type 0 where
-  pub a : r .a < 248
-  pub b : r .b < 248
-  pub c : r .c < 248
+  pub a : r .a < mostNodes
+  pub b : r .b < mostNodes
+  pub c : r .c < mostNodes
   pub variable : r .kind ≡ Variable → r .a < v
 
 module _ {n : ℕ} {st : ℕ → ℕ} (low : (j : ℕ) → j < n → st j ≤ j) where
@@ -140,8 +138,8 @@ module _ {n : ℕ} {st : ℕ → ℕ} (low : (j : ℕ) → j < n → st j ≤ j)
   lower r v e = ordered-before (operandsOf (shapeAt r) r) n (omega arith) (decides-keeps r v n st .0 e .ordered)
 
   -- unused fields are zero
-  fields : (r : Record) (v : ℕ) (h : Shape) → n ≤ 248 → v ≤ 16 → Known h → unusedOf h r + r .spare ≡ 0 → Before n (operandsOf h r) → Listed h r v
-      → (r .a < 248) × (r .b < 248) × (r .c < 248)
+  fields : (r : Record) (v : ℕ) (h : Shape) → n ≤ mostNodes → v ≤ mostVariables → Known h → unusedOf h r + r .spare ≡ 0 → Before n (operandsOf h r) → Listed h r v
+      → (r .a < mostNodes) × (r .b < mostNodes) × (r .c < mostNodes)
   fields r v Wrong l m k z b w = absurd k
   fields r v Bare l m k z b w = omega arith
   fields r v Valued l m k z b w = omega arith
@@ -150,7 +148,7 @@ module _ {n : ℕ} {st : ℕ → ℕ} (low : (j : ℕ) → j < n → st j ≤ j)
   fields r v (Two s t) l m k z b w = omega arith
   fields r v (Three s t u) l m k z b w = omega arith
 
-  pub lower-than : {r : Record} {v : ℕ} → n ≤ 248 → v ≤ 16 → placed r v n st ≡ true → Bounded r v
+  pub lower-than : {r : Record} {v : ℕ} → n ≤ mostNodes → v ≤ mostVariables → placed r v n st ≡ true → Bounded r v
   lower-than {r} {v} l m e =
       let k = decides-keeps r v n st .0 e in
       let w = fields r v (shapeAt r) l m (k .known) (k .clear) (lower r v e) (k .listed) in

@@ -5,10 +5,12 @@ ghost use mathlib.Core.List.{[], _∷_};
 ghost use mathlib.Core.Bool.{true, _&&_};
 ghost use lib.Dec.{eqb};
 ghost use Rattle.lists.specs.Places.{at};
+ghost use Rattle.layout.specs.Limits.{mostNodes};
 ghost use Rattle.layout.specs.Starts.{shapeAt, operandsOf, unusedOf, startBy};
 ghost use Rattle.order.specs.Order.{isKnown, inOrder, isListed, placed, Falling};
 use kinds::Record;
 use kinds::Shape;
+use layout::MOST_NODES;
 
 fn known(h: Shape) -> bool
     ensures { λ q. ⌜ q ≡ isKnown h ⌝ }
@@ -74,8 +76,8 @@ fn index(x: u16) -> usize
 }
 
 // Where the subtree of node x starts.
-fn start_of(x: u16, starts: &[u16; 248]) -> usize
-    requires { ⌜ x < 248 ⌝ }
+fn start_of(x: u16, starts: &[u16; MOST_NODES]) -> usize
+    requires { ⌜ x < mostNodes ⌝ }
     ensures { λ q. ⌜ q ≡ at 0 (now (starts .entry)) x ⌝ }
 {
     let i = x as usize;
@@ -89,8 +91,8 @@ fn one_ordered(a: u16, e: usize) -> bool
 }
 
 // Whether b is the node just before e, and a the one just before b's subtree.
-fn two_ordered(a: u16, b: u16, e: usize, starts: &[u16; 248]) -> bool
-    requires { ⌜ e ≤ 248 ⌝ }
+fn two_ordered(a: u16, b: u16, e: usize, starts: &[u16; MOST_NODES]) -> bool
+    requires { ⌜ e ≤ mostNodes ⌝ }
     ensures { λ q. ⌜ q ≡ inOrder (at 0 (now (starts .entry))) e (b ∷ a ∷ []) ⌝ }
 {
     if !precedes(b, e) {
@@ -99,8 +101,8 @@ fn two_ordered(a: u16, b: u16, e: usize, starts: &[u16; 248]) -> bool
     one_ordered(a, start_of(b, starts))
 }
 
-fn three_ordered(a: u16, b: u16, c: u16, e: usize, starts: &[u16; 248]) -> bool
-    requires { ⌜ (e ≤ 248) × Falling e (now starts) ⌝ }
+fn three_ordered(a: u16, b: u16, c: u16, e: usize, starts: &[u16; MOST_NODES]) -> bool
+    requires { ⌜ (e ≤ mostNodes) × Falling e (now starts) ⌝ }
     ensures { λ q. ⌜ q ≡ inOrder (at 0 (now (starts .entry))) e (c ∷ b ∷ a ∷ []) ⌝ }
 {
     if !precedes(c, e) {
@@ -110,8 +112,8 @@ fn three_ordered(a: u16, b: u16, c: u16, e: usize, starts: &[u16; 248]) -> bool
 }
 
 // Whether the operands of node n stand where the order puts them.
-fn ordered(h: Shape, r: Record, n: usize, starts: &[u16; 248]) -> bool
-    requires { ⌜ (n ≤ 248) × Falling n (now starts) ⌝ }
+fn ordered(h: Shape, r: Record, n: usize, starts: &[u16; MOST_NODES]) -> bool
+    requires { ⌜ (n ≤ mostNodes) × Falling n (now starts) ⌝ }
     ensures { λ q. ⌜ q ≡ inOrder (at 0 (now (starts .entry))) n (operandsOf h r) ⌝ }
 {
     let a = r.a;
@@ -129,8 +131,8 @@ fn ordered(h: Shape, r: Record, n: usize, starts: &[u16; 248]) -> bool
 }
 
 // Whether the record of node n keeps all that refusal 6 asks.
-pub fn right_place(r: Record, v: usize, n: usize, starts: &[u16; 248]) -> bool
-    requires { ⌜ (n ≤ 248) × Falling n (now starts) ⌝ }
+pub fn right_place(r: Record, v: usize, n: usize, starts: &[u16; MOST_NODES]) -> bool
+    requires { ⌜ (n ≤ mostNodes) × Falling n (now starts) ⌝ }
     ensures { λ q. ⌜ q ≡ placed r v n (at 0 (now (starts .entry))) ⌝ }
 {
     let kind = r.kind;
@@ -149,8 +151,8 @@ pub fn right_place(r: Record, v: usize, n: usize, starts: &[u16; 248]) -> bool
 }
 
 // Where the subtree of node n starts.
-pub fn start(r: Record, n: u16, starts: &[u16; 248]) -> u16
-    requires { ⌜ r .a < 248 ⌝ }
+pub fn start(r: Record, n: u16, starts: &[u16; MOST_NODES]) -> u16
+    requires { ⌜ r .a < mostNodes ⌝ }
     ensures { λ q. ⌜ q ≡ startBy (shapeAt r) r n (at 0 (now (starts .entry))) ⌝ }
 {
     let kind = r.kind;

@@ -1,5 +1,5 @@
 -- A refusal's number is 1 to 8, and its place is below the most nodes. Assumes nothing.
-use Prim.Native.Nat.{ℕ, _+_, _-_, _*_, _≤_, _<_}
+use Prim.Native.Nat.{ℕ, _*_, _≤_, _<_}
 use mathlib.Core.Path.{_≡_}
 use mathlib.Core.List.{List}
 use mathlib.Core.Option.{some}
@@ -9,7 +9,7 @@ use lib.ListN.{length}
 use Rattle.numbers.specs.declared.Refusal.{Refusal}
 use Rattle.layout.specs.Limits.{blockBytes, mostBlocks, mostNodes, mostVariables}
 use Rattle.layout.specs.Parts.{nodeCount, variableCount}
-use Rattle.reading.specs.Rows.{long, nodes, variables, no-node, row-1, row-2, row-3, row-4, row-5, Applies, whole, node, goal, Answer}
+use Rattle.reading.specs.Rows.{long, nodes, variables, no-node, row-1, row-2, row-3, row-4, row-5, Applies, whole, node, goal}
 use Rattle.reading.specs.Cascade.{refusalOf}
 use Rattle.reading.proofs.Stages.{node-number, goal-number}
 use Rattle.reading.proofs.Exact.{refused-exactly}

@@ -1,6 +1,6 @@
 -- Refusal R at place P is answered exactly when row R applies at P and no row whose turn is earlier does; accepted means that none applies. Assumes nothing.
-use Prim.Native.Nat.{ℕ, zero, suc, _+_, _-_, _*_, _≤_, _<_}
-use mathlib.Core.Path.{_≡_, refl, sym, ap, _∙_}
+use Prim.Native.Nat.{ℕ, _+_, _*_, _<_}
+use mathlib.Core.Path.{_≡_, refl, ap, _∙_}
 use mathlib.Core.Logic.{_↔_}
 use mathlib.Core.List.{List}
 use mathlib.Core.Option.{Option, none, some}
@@ -10,7 +10,7 @@ use Rattle.numbers.specs.declared.Refusal.{Refusal}
 use Rattle.layout.specs.Parts.{nodeCount}
 use Rattle.reading.specs.Rows.{Row2, Row5, OfSheet, row-1, row-2, row-3, row-4, row-5, Applies, whole, node, goal, Answer, Accepted}
 use Rattle.reading.specs.Cascade.{refusalOf}
-use Rattle.reading.proofs.Stages.{Stage, then, of-sheet, sheet-number, node-number, goal-number, last-turn}
+use Rattle.reading.proofs.Stages.{Stage, then, sheet-number, node-number, goal-number, last-turn}
 use Rattle.reading.proofs.SheetRows.{early-stage, header-stage, variables-stage}
 use Rattle.reading.proofs.NodeRows.{nodes-stage}
 

@@ -1,7 +1,7 @@
 -- Rows 6 to 8 say what the reading's tests say, at each node and at the goal. Assumes nothing.
-use Prim.Native.Nat.{ℕ, zero, suc, _+_, _-_, _*_, _≤_, _<_}
-use mathlib.Core.Path.{_≡_, refl, sym, ap, subst, _∙_}
-use mathlib.Core.Bool.{Bool, true, false, true≢false, false≢true, _&&_}
+use Prim.Native.Nat.{ℕ, zero, suc, _+_, _*_, _≤_, _<_}
+use mathlib.Core.Path.{_≡_, refl, sym, ap, _∙_}
+use mathlib.Core.Bool.{Bool, true, false, true≢false, _&&_}
 use mathlib.Core.List.{List, [], _∷_}
 use mathlib.Core.Option.{Option, none, some}
 use native.Mathlib.Decide.{ℕ-discrete}
@@ -15,9 +15,8 @@ use Rattle.lists.proofs.Decided.{denied}
 use Rattle.numbers.specs.declared.Refusal.{Refusal}
 use Rattle.numbers.proofs.NarrowLaws.{narrow-of, narrow-false}
 use Rattle.meaning.specs.declared.Sort.{Sort}
-use Rattle.meaning.specs.declared.Sort.the-variants.{Truth as truth, Integer as integer}
+use Rattle.meaning.specs.declared.Sort.the-variants.{Truth as truth}
 use Rattle.kinds.specs.declared.Record.{Record}
-use Rattle.kinds.specs.declared.Shape.{Shape}
 use Rattle.layout.specs.Starts.{shapeAt, sortAt, operandsOf, sortsOf, unusedOf, startAt, Sorted, Typed, Placed}
 use Rattle.layout.specs.Parts.{nodeCount, variableCount, table}
 use Rattle.refusals.specs.Said.{unless}
@@ -29,7 +28,7 @@ use Rattle.findings.specs.Findings.{fitting}
 use Rattle.findings.specs.Steps.{sameSort}
 use Rattle.findings.proofs.FindingLaws.{decides-same}
 use Rattle.nodes.specs.Nodes.{findingAt, areSorted, typed, nodeRefusal, goalRefusal, goalAt, nodes}
-use Rattle.reading.specs.Rows.{Row6, unknown, unused, spare, misplaced, unlisted, Row7, Row8, GoalSubtree, GoalType, OfNode, row-6, row-7, row-8, OfGoal, goal-6, goal-7, Applies, node, goal}
+use Rattle.reading.specs.Rows.{Row6, unknown, unused, spare, misplaced, unlisted, Row7, Row8, GoalSubtree, GoalType, OfNode, row-6, row-7, row-8, OfGoal, goal-6, goal-7, node, goal}
 use Rattle.reading.proofs.Stages.{Stage, row, then, no-turn, of-node, of-goal}
 
 -- the row of a number

@@ -6,16 +6,16 @@ use mathlib.Core.Option.{none}
 use native.Mathlib.Decide.{decLt}
 use native.Mathlib.Omega.{arith}
 use lib.IntN.{ℤ, pos}
-use lib.ListN.{length, getD, List·getD-eq-default}
+use lib.ListN.{length, List·getD-eq-default}
 use Rattle.numbers.specs.declared.Range.{Range}
-use Rattle.numbers.specs.Ranges.{Narrow, NarrowEnds, In, _⋯_}
+use Rattle.numbers.specs.Ranges.{Narrow, In}
 use Rattle.numbers.proofs.Sound.{one-in}
 use Rattle.numbers.proofs.NarrowLaws.{in-narrow}
 use Rattle.meaning.specs.declared.Sort.{Sort}
 use Rattle.meaning.specs.declared.Sort.the-variants.{Integer as integer}
 use Rattle.meaning.specs.Tree.{Tree}
 use Rattle.meaning.specs.Value.{value}
-use Rattle.meaning.specs.Rule.{Variable, Rule, noVariable, variableOf, domainOf, Case, valueIn}
+use Rattle.meaning.specs.Rule.{Variable, Rule, noVariable, domainOf, Case, valueIn}
 use Rattle.layout.specs.Starts.{sortAt}
 use Rattle.layout.specs.Goal.{ofSort, treeAt}
 use Rattle.layout.specs.Parts.{nodeCount, table, ruleIn}

@@ -1,17 +1,15 @@
 -- The reading step by step: what each step's answer makes of the whole, and what it leaves for the next. Assumes nothing.
-use Prim.Native.Nat.{ℕ, _+_, _%_, _≤_, _<_}
-use mathlib.Core.Path.{_≡_, refl, sym, ap, _∙_}
-use mathlib.Core.Bool.{Bool, true, false, _&&_}
+use Prim.Native.Nat.{ℕ, _+_, _*_, _%_, _≤_, _<_}
+use mathlib.Core.Path.{_≡_, sym, ap, _∙_}
+use mathlib.Core.Bool.{true, false}
 use mathlib.Core.List.{List}
 use mathlib.Core.Option.{Option, none, some}
 use native.Mathlib.Omega.{arith}
 use borrow.Author.Tests.{lt-ltb, le-ltb}
-use lib.Dec.{ltb}
 use lib.ListN.{length}
-use Rattle.lists.specs.First.{_otherwise_}
 use Rattle.lists.proofs.FirstLaws.{otherwise-none, otherwise-some}
 use Rattle.numbers.specs.declared.Refusal.{Refusal}
-use Rattle.layout.specs.Limits.{mostVariables, variablePlace}
+use Rattle.layout.specs.Limits.{blockBytes, nameStart, mostVariables, variablePlace}
 use Rattle.layout.specs.Parts.{variableCount}
 use Rattle.refusals.specs.declared.Reading.{Reading}
 use Rattle.refusals.specs.declared.Reading.the-variants.{Accepted, Refused}
@@ -23,7 +21,7 @@ use Rattle.header.proofs.HeaderLaws.{right-of-none, right-counts}
 use Rattle.records.specs.Variables.{variables}
 use Rattle.nodes.specs.Nodes.{nodes}
 use Rattle.reading.specs.Cascade.{refusalOf}
-use Rattle.reading.specs.Name.{isNone, nameGiven}
+use Rattle.reading.specs.Name.{nameGiven}
 use Rattle.reading.proofs.RuleLaws.{accepted-counted}
 
 -- the answer of a step, in options
@@ -39,14 +37,14 @@ module _ (s : List ℕ) {a : Reading} (ea : saidOf a ≡ early s) where
   by-blocks d = ap saidOf d ∙ sym (otherwise-some _ (some-of ea d))
 
   module _ (pa : a ≡ Accepted) where
-    pub one-block : 512 ≤ length s
+    pub one-block : blockBytes ≤ length s
     one-block =
         let w = right-length (length s) (early-none s (none-of ea pa) .0) in
         let z = w .0 in
         let y = w .1 in
         long (length s) z y
       where
-        long : (n : ℕ) → (n ≡ 0 → ⊥) → n % 512 ≡ 0 → 512 ≤ n
+        long : (n : ℕ) → (n ≡ 0 → ⊥) → n % blockBytes ≡ 0 → blockBytes ≤ n
         long n f g = omega arith
 
     module _ {b : Reading} (eb : saidOf b ≡ header s) where
@@ -58,7 +56,7 @@ module _ (s : List ℕ) {a : Reading} (ea : saidOf a ≡ early s) where
         pub counted : Counted s
         counted = right-counts s (right-of-none s (none-of eb pb))
 
-        pub records-inside : (1024 ≤ length s) × (variableCount s ≤ mostVariables)
+        pub records-inside : (2 * blockBytes ≤ length s) × (variableCount s ≤ mostVariables)
         records-inside =
             let c = counted in
             let z = c .size in
@@ -89,13 +87,13 @@ module _ (s : List ℕ) {a : Reading} (e : saidOf a ≡ refusalOf s) where
     unfolding nameGiven
     listed-name i h = rw (none-of e p, lt-ltb i (variableCount s) h)
 
-    pub accepted-long : 512 ≤ length s
+    pub accepted-long : blockBytes ≤ length s
     accepted-long =
         let c = accepted-counted s (none-of e p) in
         let z = c .size in
         omega arith
 
-    pub name-inside : {i : ℕ} → i < variableCount s → variablePlace i + 261 ≤ length s
+    pub name-inside : {i : ℕ} → i < variableCount s → variablePlace i + nameStart + 255 ≤ length s
     name-inside h =
         let c = accepted-counted s (none-of e p) in
         let z = c .size in

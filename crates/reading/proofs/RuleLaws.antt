@@ -1,33 +1,27 @@
 -- A sheet that is not refused is laid out right and holds a lawful rule, and the other way round; so rules and accepted sheets match. Assumes nothing.
-use Prim.Native.Nat.{ℕ, zero, suc, _+_, _-_, _*_, _/_, _≤_, _<_}
+use Prim.Native.Nat.{ℕ, zero, suc, _+_, _-_, _≤_, _<_}
 use mathlib.Core.Path.{_≡_, refl, sym, ap, subst, _∙_}
 use mathlib.Core.Logic.{_↔_}
-use mathlib.Core.Bool.{Bool, true, false}
+use mathlib.Core.Bool.{true}
 use mathlib.Core.List.{List}
 use mathlib.Core.Option.{Option, none, some}
 use native.Mathlib.Nat.{zero-add}
 use native.Mathlib.Omega.{arith}
 use borrow.Author.Tests.{eqb-true, eq-eqb}
-use lib.Dec.{eqb}
-use lib.ListN.{length, getD, take, drop}
+use lib.ListN.{length, take, drop}
 use Rattle.lists.specs.Places.{from}
-use Rattle.lists.specs.First.{_otherwise_, first}
 use Rattle.lists.proofs.FirstLaws.{neither, otherwise-none, first-none, none-first}
 use Rattle.numbers.specs.declared.Refusal.{Refusal}
-use Rattle.numbers.specs.Bytes.{Bytes, i16At}
-use Rattle.meaning.specs.declared.Sort.{Sort}
+use Rattle.numbers.specs.Bytes.{Bytes}
 use Rattle.meaning.specs.declared.Sort.the-variants.{Truth}
-use Rattle.meaning.specs.Tree.{Tree}
-use Rattle.meaning.specs.Rule.{Variable, Rule, variableOf, domainOf}
-use Rattle.kinds.specs.Rows.{Throughout}
-use Rattle.layout.specs.Limits.{blockBytes, blocksFor, variablePlace}
+use Rattle.meaning.specs.Rule.{Rule, domainOf}
+use Rattle.layout.specs.Limits.{blocksFor, variablePlace}
 use Rattle.layout.specs.Checks.{blockRight}
 use Rattle.layout.specs.Starts.{sortAt, startAt, Placed, Typed}
-use Rattle.layout.specs.Goal.{treeAt, goalOf, Sound}
-use Rattle.layout.specs.Parts.{nodeCount, variableCount, variableAt, nameSize, nameIn, table, ruleIn, LaidOut}
-use Rattle.layout.specs.Fold.{ofTree, ofNode}
+use Rattle.layout.specs.Goal.{treeAt, Sound}
+use Rattle.layout.specs.Parts.{nodeCount, variableCount, nameSize, nameIn, table, ruleIn, LaidOut}
+use Rattle.layout.specs.Fold.{ofTree}
 use Rattle.layout.specs.Sheet.{sheetOf}
-use Rattle.layout.specs.WellFormed.{WellFormed}
 use Rattle.layout.specs.Nodes.{nodesOf}
 use Rattle.layout.proofs.PartLaws.{words, variable-total, variable-is}
 use Rattle.layout.proofs.Forward.{records-are}
@@ -41,14 +35,13 @@ use Rattle.blocks.specs.Early.{early}
 use Rattle.blocks.proofs.EarlyLaws.{early-none, none-early, length-right}
 use Rattle.header.specs.Header.{header, Counted}
 use Rattle.header.proofs.HeaderLaws.{right-of-none, none-of-right, right-counts}
-use Rattle.records.specs.Names.{Name, VariableRule, VariableKept}
+use Rattle.records.specs.Names.{Name, VariableKept}
 use Rattle.records.specs.Variables.{variables}
 use Rattle.records.proofs.VariableLaws.{variables-none}
 use Rattle.records.proofs.NameLaws.{laid-out, rule-of}
 use Rattle.order.proofs.OrderLaws.{placed-of, placed-true}
-use Rattle.findings.specs.declared.Finding.{Finding}
 use Rattle.findings.specs.declared.Finding.the-variants.{Truth as found-truth}
-use Rattle.findings.specs.Findings.{findingOf, fitting, Fits}
+use Rattle.findings.specs.Findings.{findingOf, Fits}
 use Rattle.findings.proofs.FindingLaws.{fits-of, fits-true, decides-same}
 use Rattle.nodes.specs.Nodes.{findingAt, nodeRefusal, nodes}
 use Rattle.reading.specs.Cascade.{refusalOf, ruleOf}

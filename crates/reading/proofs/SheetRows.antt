@@ -1,34 +1,29 @@
 -- Rows 1 to 5 say what the reading's tests say, each at its turn. Assumes nothing.
-use Prim.Native.Nat.{ℕ, zero, suc, _+_, _*_, _/_, _≤_, _<_}
-use mathlib.Core.Path.{_≡_, refl, sym, ap, _∙_}
+use Prim.Native.Nat.{ℕ, _+_, _/_, _<_}
+use mathlib.Core.Path.{_≡_, refl, sym, _∙_}
 use mathlib.Core.Logic.{⊎-elim}
 use mathlib.Core.Bool.{Bool, true, false, true≢false, _&&_}
 use mathlib.Core.List.{List}
-use mathlib.Core.Option.{Option, none, some}
-use native.Mathlib.Nat.{zero-add}
 use native.Mathlib.Decide.{decLt}
 use native.Mathlib.Omega.{arith}
 use borrow.Author.Tests.{eqb-true, eqb-false}
 use lib.Dec.{eqb}
 use lib.ListN.{length}
-use Rattle.lists.specs.First.{_otherwise_, first}
 use Rattle.lists.proofs.FirstLaws.{first-none, first-some}
 use Rattle.lists.proofs.TestLaws.{both}
-use Rattle.numbers.specs.declared.Refusal.{Refusal}
-use Rattle.layout.specs.Limits.{blockBytes, mostBlocks, mostNodes, mostVariables, blocksFor}
-use Rattle.layout.specs.Checks.{checkOf, content, storedCheck, blockRight, Inside}
+use Rattle.layout.specs.Limits.{blockBytes, mostNodes, mostVariables}
+use Rattle.layout.specs.Checks.{checkOf, content, storedCheck, blockRight}
 use Rattle.layout.specs.Parts.{edition, nodeCount, variableCount}
 use Rattle.refusals.specs.Said.{unless}
 use Rattle.refusals.proofs.SaidLaws.{unless-none, unless-some}
 use Rattle.blocks.specs.Early.{lengthRight, checkRefusal, checksRefusal, early}
 use Rattle.blocks.proofs.EarlyLaws.{right-length, wrong-length}
-use Rattle.header.specs.Header.{countsRight, outsideClear, header, Counted}
+use Rattle.header.specs.Header.{countsRight, outsideClear, header}
 use Rattle.header.proofs.HeaderLaws.{counts-of, counts-at, outside-at}
-use Rattle.header.proofs.Spare.{listed-zero, Spoilt, spoilt-of}
-use Rattle.records.specs.Names.{VariableKept, LowestBroken}
+use Rattle.header.proofs.Spare.{listed-zero, spoilt-of}
 use Rattle.records.specs.Variables.{variables}
 use Rattle.records.proofs.VariableLaws.{variables-some, variables-none}
-use Rattle.reading.specs.Rows.{Row1, empty, ragged, long, Row2, Row3, Row4, no-node, nodes, variables as many, size, byte, Row5, OfSheet, row-1, row-2, row-3, row-4, row-5, Applies, whole}
+use Rattle.reading.specs.Rows.{Row1, empty, ragged, long, Row2, Row3, Row4, no-node, nodes, variables as many, size, byte, Row5, OfSheet, row-1, row-2, row-3, row-4, row-5, whole}
 use Rattle.reading.proofs.Stages.{Stage, row, then, of-sheet}
 
 -- the row of a number

@@ -1,13 +1,12 @@
 -- The order of rows, by stages: what a part of the cascade answers, in a run of turns. Assumes nothing.
-use Prim.Native.Nat.{ℕ, zero, suc, _+_, _-_, _*_, _≤_, _<_}
-use mathlib.Core.Path.{_≡_, refl, sym, ap, _∙_}
+use Prim.Native.Nat.{ℕ, _+_, _*_, _≤_, _<_}
+use mathlib.Core.Path.{_≡_, refl}
 use mathlib.Core.Bool.{Bool, true, false}
 use mathlib.Core.List.{List}
 use mathlib.Core.Option.{Option, none, some}
 use native.Mathlib.Decide.{decLt}
 use native.Mathlib.Omega.{arith}
-use Rattle.lists.specs.First.{_otherwise_, first}
-use Rattle.lists.proofs.FirstLaws.{first-pass, first-stop}
+use Rattle.lists.specs.First.{_otherwise_}
 use Rattle.numbers.specs.declared.Refusal.{Refusal}
 use Rattle.layout.specs.Parts.{nodeCount}
 use Rattle.refusals.specs.Said.{unless}

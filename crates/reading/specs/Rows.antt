@@ -1,5 +1,5 @@
 -- Document 01's table "When a sheet is turned away", rows 1 to 8, as propositions, and their order. Nothing here is a test of the reading's own.
-use Prim.Native.Nat.{ℕ, _+_, _-_, _*_, _%_, _≤_, _<_}
+use Prim.Native.Nat.{ℕ, _+_, _-_, _*_, _%_, _<_}
 use mathlib.Core.Path.{_≡_}
 use mathlib.Core.List.{List}
 use lib.ListN.{length}

@@ -9,7 +9,7 @@ use native.Mathlib.Omega.{arith}
 use lib.ListN.{length}
 use lib.Signed.{_≤ℤ_}
 use Rattle.numbers.specs.Bytes.{byteAt, i16At}
-use Rattle.layout.specs.Limits.{mostNameBytes}
+use Rattle.layout.specs.Limits.{mostNameBytes, nameStart, nameField}
 use Rattle.layout.specs.Parts.{nameSize, nameIn, VariableLaidOut}
 use Rattle.header.proofs.ZeroLaws.{zeros-at, zeros-of}
 use Rattle.records.specs.Variables.{isLetter, isNameByte, allNameBytes, nameRight, sameBytes, variableRight}
@@ -101,6 +101,6 @@ module _ (s : List ℕ) (i : ℕ) where
       (decides-le (nameSize s i) mostNameBytes))
       (decides-eq (byteAt s (i + 5)) 0))
       (name-decided (nameIn s i)))
-      (zeros-at s (i + 6 + nameSize s i) (18 - nameSize s i), zeros-of s (i + 6 + nameSize s i) (18 - nameSize s i)))
+      (zeros-at s (i + nameStart + nameSize s i) (nameField - nameSize s i), zeros-of s (i + nameStart + nameSize s i) (nameField - nameSize s i)))
       (λ w. rule-of (w .0 .0 .0 .0 .0) (w .0 .0 .0 .0 .1) (w .0 .1) (record { short = w .0 .0 .0 .1; gap = w .0 .0 .1; rest = w .1 }))
       (λ v. (((((v .order, v .long), v .short), v .gap), v .name), laid-out v .rest))

@@ -6,7 +6,7 @@ use mathlib.Core.Logic.{_⊎_}
 use lib.ListN.{length}
 use lib.Signed.{_≤ℤ_}
 use Rattle.numbers.specs.Bytes.{byteAt, i16At}
-use Rattle.layout.specs.Limits.{mostNameBytes, variablePlace}
+use Rattle.layout.specs.Limits.{mostNameBytes, nameStart, variablePlace}
 use Rattle.layout.specs.Parts.{variableCount, nameSize, nameIn}
 
 -- ASCII: A to Z and a to z; 0 to 9; the underscore
@@ -28,7 +28,7 @@ pub record VariableRule (s : List ℕ) (i : ℕ) : Type 0 where
   pub short : nameSize s i ≤ mostNameBytes
   pub gap : byteAt s (i + 5) ≡ 0
   pub name : Name (nameIn s i)
-  pub past : (j : ℕ) → nameSize s i ≤ j → j < mostNameBytes → byteAt s (i + 6 + j) ≡ 0
+  pub past : (j : ℕ) → nameSize s i ≤ j → j < mostNameBytes → byteAt s (i + nameStart + j) ≡ 0
   pub end : (byteAt s (i + 22) ≡ 0) × (byteAt s (i + 23) ≡ 0)
 
 -- variable n's record keeps them, and no lower variable has its name

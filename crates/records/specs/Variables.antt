@@ -9,7 +9,7 @@ use Rattle.lists.specs.Places.{allBelow}
 use Rattle.lists.specs.First.{first}
 use Rattle.numbers.specs.declared.Refusal.{Refusal}
 use Rattle.numbers.specs.Bytes.{byteAt, i16At}
-use Rattle.layout.specs.Limits.{mostNameBytes, variablePlace}
+use Rattle.layout.specs.Limits.{mostNameBytes, nameStart, nameField, variablePlace}
 use Rattle.layout.specs.Parts.{variableCount, nameSize, nameIn}
 use Rattle.refusals.specs.Said.{unless}
 use Rattle.header.specs.Header.{zeros}
@@ -45,7 +45,7 @@ variableRight s i =
     && leb (nameSize s i) mostNameBytes
     && eqb (byteAt s (i + 5)) 0
     && nameRight (nameIn s i)
-    && zeros s (i + 6 + nameSize s i) (18 - nameSize s i)
+    && zeros s (i + nameStart + nameSize s i) (nameField - nameSize s i)
 
 -- no lower variable has variable n's name
 unfoldable pub fresh : List ℕ → ℕ → Bool

@@ -1,34 +1,30 @@
 // The records of a sheet: variable records, node records, and refusal 5.
 ghost use mathlib.Core.Path.{_≡_};
 ghost use mathlib.Core.Bool.{_&&_};
-ghost use Prim.Native.Nat.{_+_, _≤_, _<_};
+ghost use Prim.Native.Nat.{_+_, _*_, _≤_, _<_};
 ghost use lib.Dec.{leb};
 ghost use lib.ListN.{length};
 ghost use lib.Signed.{leZ};
 ghost use Rattle.lists.specs.Part.{PartAt};
 ghost use Rattle.numbers.specs.Bytes.{i16At};
-ghost use Rattle.layout.specs.Limits.{nodePlace, variablePlace, mostVariables};
+ghost use Rattle.layout.specs.Limits.{blockBytes, nameStart, mostVariables, nodeBytes, variablePlace, nodePlace};
 ghost use Rattle.layout.specs.Parts.{variableCount, variableAt, recordIn, nameSize, nameIn, table};
 ghost use Rattle.refusals.specs.Said.{saidOf};
 ghost use Rattle.records.specs.Variables.{isLetter, isNameByte, nameRight, sameBytes, variableRight, fresh, variables};
 use kinds::Record;
+use layout::BLOCK_BYTES;
+use layout::HEADER_BYTES;
+use layout::MOST_NAME_BYTES;
+use layout::NAME_FIELD;
+use layout::NAME_START;
+use layout::NODE_BYTES;
+use layout::NODES_IN_BLOCK;
+use layout::VARIABLE_BYTES;
 use numbers::NodeNumber;
 use numbers::Range;
 use numbers::Refusal;
 use numbers::VariableNumber;
 use refusals::Reading;
-
-const BLOCK: usize = 512;
-
-const HEADER: usize = 8;
-
-const VARIABLE: usize = 24;
-
-const NODE: usize = 16;
-
-const NODES_IN_BLOCK: usize = 31;
-
-const MOST_NAME: usize = 16;
 
 fn between(low: u8, b: u8, high: u8) -> bool
     ensures { λ r. ⌜ r ≡ leb low b && leb b high ⌝ }
@@ -90,11 +86,11 @@ fn same_bytes(a: &[u8], b: &[u8]) -> bool
 
 // The name in the variable record at a place, as the very part of the sheet.
 pub fn name_in(sheet: &[u8], at: usize) -> &[u8]
-    requires { ⌜ at + 261 ≤ length (now sheet) ⌝ }
-    ensures { λ r. ⌜ PartAt (sheet .entry) r (at + 6) (nameSize (now (sheet .entry)) at) ⌝ }
+    requires { ⌜ at + nameStart + 255 ≤ length (now sheet) ⌝ }
+    ensures { λ r. ⌜ PartAt (sheet .entry) r (at + nameStart) (nameSize (now (sheet .entry)) at) ⌝ }
 {
     let size = numbers::byte_at(sheet, at + 4) as usize;
-    let start = at + 6;
+    let start = at + NAME_START;
     let end = start + size;
     &sheet[start..end]
 }
@@ -103,7 +99,7 @@ pub fn name_in(sheet: &[u8], at: usize) -> &[u8]
 pub fn variable_place(n: VariableNumber) -> usize
     ensures { λ r. ⌜ r ≡ variablePlace (n .0) ⌝ }
 {
-    HEADER + VARIABLE * (n.0 as usize)
+    HEADER_BYTES + VARIABLE_BYTES * (n.0 as usize)
 }
 
 // Whether min ≤ max in the variable record at a place.
@@ -116,7 +112,7 @@ fn ordered(sheet: &[u8], at: usize) -> bool
 
 // Whether the variable record at a place keeps its own rules.
 fn variable_right(sheet: &[u8], at: usize) -> bool
-    requires { ⌜ at + 261 ≤ length (now sheet) ⌝ }
+    requires { ⌜ at + nameStart + 255 ≤ length (now sheet) ⌝ }
     ensures { λ r. ⌜ r ≡ variableRight (now (sheet .entry)) at ⌝ }
 {
     if !ordered(sheet, at) {
@@ -126,7 +122,7 @@ fn variable_right(sheet: &[u8], at: usize) -> bool
     if size < 1 {
         return false;
     }
-    if MOST_NAME < size {
+    if MOST_NAME_BYTES < size {
         return false;
     }
     if sheet[at + 5] != 0 {
@@ -136,12 +132,12 @@ fn variable_right(sheet: &[u8], at: usize) -> bool
     if !name_right(name) {
         return false;
     }
-    header::clear(sheet, at + 6 + size, 18 - size)
+    header::clear(sheet, at + NAME_START + size, NAME_FIELD - size)
 }
 
 // Whether two variables have the same name.
 fn same_name(sheet: &[u8], m: VariableNumber, n: VariableNumber) -> bool
-    requires { ⌜ (1024 ≤ length (now sheet)) × (m .0 < mostVariables) × (n .0 < mostVariables) ⌝ }
+    requires { ⌜ (2 * blockBytes ≤ length (now sheet)) × (m .0 < mostVariables) × (n .0 < mostVariables) ⌝ }
     ensures { λ r. ⌜ r ≡ sameBytes (nameIn (now (sheet .entry)) (variablePlace (m .0))) (nameIn (now (sheet .entry)) (variablePlace (n .0))) ⌝ }
 {
     let a = name_in(sheet, variable_place(m));
@@ -151,7 +147,7 @@ fn same_name(sheet: &[u8], m: VariableNumber, n: VariableNumber) -> bool
 
 // Whether no lower variable has a variable's name.
 fn fresh_name(sheet: &[u8], n: VariableNumber) -> bool
-    requires { ⌜ (1024 ≤ length (now sheet)) × (n .0 < mostVariables) ⌝ }
+    requires { ⌜ (2 * blockBytes ≤ length (now sheet)) × (n .0 < mostVariables) ⌝ }
     ensures { λ r. ⌜ r ≡ fresh (now (sheet .entry)) (n .0) ⌝ }
 {
     let end = n.0;
@@ -167,7 +163,7 @@ fn fresh_name(sheet: &[u8], n: VariableNumber) -> bool
 
 // Whether a variable's record keeps its own rules and no lower variable has its name.
 fn variable_kept(sheet: &[u8], n: VariableNumber) -> bool
-    requires { ⌜ (1024 ≤ length (now sheet)) × (n .0 < mostVariables) ⌝ }
+    requires { ⌜ (2 * blockBytes ≤ length (now sheet)) × (n .0 < mostVariables) ⌝ }
     ensures { λ r. ⌜ r ≡ variableRight (now (sheet .entry)) (variablePlace (n .0)) && fresh (now (sheet .entry)) (n .0) ⌝ }
 {
     variable_right(sheet, variable_place(n)) && fresh_name(sheet, n)
@@ -175,7 +171,7 @@ fn variable_kept(sheet: &[u8], n: VariableNumber) -> bool
 
 // Refusal 5: the lowest variable record that breaks a rule.
 pub fn read_variables(sheet: &[u8]) -> Reading
-    requires { ⌜ (1024 ≤ length (now sheet)) × (variableCount (now sheet) ≤ mostVariables) ⌝ }
+    requires { ⌜ (2 * blockBytes ≤ length (now sheet)) × (variableCount (now sheet) ≤ mostVariables) ⌝ }
     ensures { λ r. ⌜ saidOf r ≡ variables (now (sheet .entry)) ⌝ }
 {
     let v = header::variable_count(sheet);
@@ -194,7 +190,7 @@ pub fn read_variables(sheet: &[u8]) -> Reading
 
 // A variable's domain.
 pub fn domain(sheet: &[u8], n: VariableNumber) -> Range
-    requires { ⌜ (512 ≤ length (now sheet)) × (n .0 < mostVariables) ⌝ }
+    requires { ⌜ (blockBytes ≤ length (now sheet)) × (n .0 < mostVariables) ⌝ }
     ensures { λ r. ⌜ r ≡ variableAt (now (sheet .entry)) (n .0) .domain ⌝ }
 {
     let at = variable_place(n);
@@ -208,12 +204,12 @@ fn node_place(n: NodeNumber) -> usize
     ensures { λ r. ⌜ r ≡ nodePlace (n .0) ⌝ }
 {
     let i = n.0 as usize;
-    BLOCK * (i / NODES_IN_BLOCK + 1) + NODE * (i % NODES_IN_BLOCK)
+    BLOCK_BYTES * (i / NODES_IN_BLOCK + 1) + NODE_BYTES * (i % NODES_IN_BLOCK)
 }
 
 // The sum of the bytes of the node record at a place that every kind leaves zero.
 fn spare_in(sheet: &[u8], at: usize) -> u16
-    requires { ⌜ at + 16 ≤ length (now sheet) ⌝ }
+    requires { ⌜ at + nodeBytes ≤ length (now sheet) ⌝ }
     ensures { λ r. ⌜ r ≡ recordIn (now (sheet .entry)) at .spare ⌝ }
 {
     let low = numbers::byte_at(sheet, at + 1)
@@ -225,7 +221,7 @@ fn spare_in(sheet: &[u8], at: usize) -> u16
 
 // A node's record.
 pub fn record_at(sheet: &[u8], n: NodeNumber) -> Record
-    requires { ⌜ nodePlace (n .0) + 16 ≤ length (now sheet) ⌝ }
+    requires { ⌜ nodePlace (n .0) + nodeBytes ≤ length (now sheet) ⌝ }
     ensures { λ r. ⌜ r ≡ table (now (sheet .entry)) (n .0) ⌝ }
 {
     let at = node_place(n);

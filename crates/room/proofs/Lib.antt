@@ -1,3 +1,1 @@
 pub mod RoomLaws
-pub mod WordLaws
-pub mod PieceLaws

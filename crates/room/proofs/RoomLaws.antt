@@ -1,6 +1,6 @@
 -- Laws of a room with a text in it: one more byte, a text behind another, and a part that was lent. Assumes nothing.
 use Prim.Native.Nat.{ℕ, suc, _+_, _-_, _≤_, _<_}
-use mathlib.Core.Path.{_≡_, refl, sym, ap, _∙_}
+use mathlib.Core.Path.{_≡_, sym, ap, _∙_}
 use mathlib.Core.List.{List, [], _++_, append-assoc, append-nil}
 use native.Mathlib.Nat.{le-refl, zero-add, add-zero, add-assoc}
 use native.Mathlib.Numerals.{add-one}

@@ -16,6 +16,7 @@ use Rattle.meaning.specs.declared.Sort.the-variants.{Truth, Integer}
 use Rattle.meaning.specs.Tree.{Tree, tru, fls, neg, conj, disj, implies, iff, equal, less, atMost, const, var, minus, sum, difference, product, ite}
 use Rattle.meaning.specs.Value.{Of, implied, equivalent, equals, chosen, value as meant}
 use Rattle.kinds.specs.Rows.{by-rows, Throughout}
+use Rattle.kinds.proofs.ClaimLaws.{own}
 use Rattle.layout.specs.Fold.{ofTree}
 use Rattle.smtlib.specs.Tokens.{Atom, symbol}
 use Rattle.smtlib.specs.Sexps.{atom}
@@ -27,7 +28,7 @@ use Rattle.smtlib.proofs.TermLaws.{value-constant, value-truths1, value-vectors
 use Rattle.smtlib.proofs.OrderLaws.{bvslt-is, bvsle-is}
 use Rattle.wording.specs.Words.{wordOf}
 use Rattle.wording.proofs.Sexps.{sexp}
-use Rattle.wording.proofs.MeansTrees.{NoWrap, Below, own}
+use Rattle.wording.proofs.MeansTrees.{NoWrap, Below}
 
 -- ---- Core's functions are those of the meaning
 implies-is : (a b : Bool) → not a || b ≡ implied a b

@@ -1,4 +1,4 @@
--- What is asked of each tree in a tree so that its s-expression means what the tree does, and laws of such claims. Assumes nothing.
+-- What is asked of each tree in a tree so that its s-expression means what the tree does. Assumes nothing.
 use mathlib.Core.Path.{_≡_, subst}
 use Prim.Native.Nat.{ℕ, _<_}
 use lib.IntN.{ℤ}
@@ -10,8 +10,9 @@ use Rattle.meaning.specs.Value.{value}
 use Rattle.kinds.specs.declared.Shape.{Shape}
 use Rattle.kinds.specs.declared.Shape.the-variants.{Wrong, Bare, Valued, Named, One, Two, Three}
 use Rattle.kinds.specs.Kinds.{row}
-use Rattle.kinds.specs.Rows.{Args, Each, by-rows, eachOf, together, Throughout}
-use Rattle.kinds.proofs.RowLaws.{throughout-make}
+use Rattle.kinds.specs.Rows.{Args, Each, by-rows, Throughout}
+use Rattle.kinds.proofs.ClaimLaws.{Parts, throughout-make}
+pub use Rattle.kinds.proofs.ClaimLaws.{follows}
 use Rattle.layout.specs.WellFormed.{Fine}
 use Rattle.layout.proofs.Made.{FineMade, fine-make}
 
@@ -24,32 +25,6 @@ NoWrap w ρ Integer t = Within w (value ρ t)
 abbrev pub Below : ℕ → (s : Sort) → Tree s → Type 0
 Below v Truth t = Unit {0}
 Below v Integer t = (i : ℕ) → t ≡ var i → i < v
-
--- ---- claims throughout a tree
-
--- such a claim holds of the tree itself
-pub own : (Q : (s : Sort) → Tree s → Type 0) {s : Sort} (t : Tree s) → Throughout Q t → Q s t
-own Q t = by-rows (λ s u. Throughout Q u → Q s u) (λ k q x y h. (rw (throughout-make Q k q x) at h) .0) t
-
--- throughout each operand
-abbrev Parts : ((s : Sort) → Tree s → Type 0) → (h : Shape) → Args h → Type 0
-Parts Q h x = together h x (eachOf (λ s t. Type 0) (λ s t. Throughout Q t) h x)
-
--- what follows at each tree follows throughout
-module _ (P Q : (s : Sort) → Tree s → Type 0) (m : (s : Sort) (t : Tree s) → P s t → Q s t) where
-  parts-follow : (h : Shape) (x : Args h) → Each (λ s u. Throughout P u → Throughout Q u) h x → Parts P h x → Parts Q h x
-  parts-follow Wrong x y p = tt
-  parts-follow Bare x y p = tt
-  parts-follow Valued x y p = tt
-  parts-follow Named x y p = tt
-  parts-follow (One s) x y p = y p
-  parts-follow (Two s t) x y p = (y .0 (p .0), y .1 (p .1))
-  parts-follow (Three s t u) x y p = (y .0 (p .0), y .1 (p .1), y .2 (p .2))
-
-  pub follows : {s : Sort} (t : Tree s) → Throughout P t → Throughout Q t
-  follows t =
-      by-rows (λ s u. Throughout P u → Throughout Q u)
-      (λ k q x y h. let p = rw (throughout-make P k q x) at h in rw (throughout-make Q k q x) (m (row k .gives) _ (p .0), parts-follow (row k .shape) x y (p .1))) t
 
 -- ---- in a tree that has a place in a sheet of v variables, each variable is one of them
 module _ (v : ℕ) where

@@ -4,8 +4,8 @@ use mathlib.Core.Path.{_≡_, refl, sym, ap, _∙_}
 use mathlib.Core.Logic.{_↔_}
 use mathlib.Core.List.{List}
 use mathlib.Core.Option.{Option, none, some}
+use native.Mathlib.Omega.{arith}
 use borrow.Author.Tests.{leb-true, le-leb, lt-leb}
-use lib.Dec.{leb}
 use lib.ListN.{length}
 use Rattle.lists.proofs.FirstLaws.{neither, otherwise-none}
 use Rattle.numbers.specs.declared.Refusal.{Refusal}
@@ -15,7 +15,8 @@ use Rattle.reading.specs.Cascade.{refusalOf}
 use Rattle.wording.specs.Script.{script}
 use Rattle.writer.specs.declared.Written.{Written}
 use Rattle.writer.specs.declared.Written.the-variants.{Script, Refused}
-use Rattle.writer.specs.Writes.{scriptRefusal, writtenSaid, Writes}
+use Rattle.writer.specs.Writes.{scriptRefusal, enoughRoom, writtenSaid, Writes}
+use Rattle.writer.proofs.ScriptLaws.{script-short}
 
 asWritten : Option Refusal → ℕ → Written
 asWritten none n = Script n
@@ -46,3 +47,7 @@ module _ (s : List ℕ) (room : ℕ) where
   pub short-room : refusalOf s ≡ none → room < length (script (ruleIn s)) → scriptRefusal s room ≡ some (record { number = 9; place = length (script (ruleIn s)) })
   unfolding scriptRefusal
   short-room e l = otherwise-none _ e ∙ unless-false 9 _ (lt-leb (length (script (ruleIn s))) room l)
+
+  -- a room of enough bytes is enough for every accepted sheet
+  pub enough : refusalOf s ≡ none → enoughRoom ≤ room → scriptRefusal s room ≡ none
+  enough e l = written-exactly .1 (e, omega (arith, script-short s e))

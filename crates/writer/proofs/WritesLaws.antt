@@ -1,12 +1,13 @@
--- What `write_script` answers, way by way: a refused sheet, a room that is too short, and the script. Assumes nothing.
+-- What `write_script` answers, way by way: a refused sheet, a room that is too short, and the script; and a script that is written lies inside its room. Assumes nothing.
 use Prim.Native.Nat.{ℕ, _≤_, _<_}
-use mathlib.Core.Path.{_≡_, refl, sym, ap, _∙_}
+use mathlib.Core.Path.{_≡_, sym, ap, _∙_}
 use mathlib.Core.List.{List}
 use mathlib.Core.Option.{Option, none, some}
 use native.Mathlib.Nat.{zero-add}
 use native.Mathlib.Omega.{arith}
 use borrow.Author.Tests.{le-leb, lt-leb}
-use lib.ListN.{length}
+use lib.ListN.{length, take, drop, length-append}
+use lib.Seq.{length-take-le}
 use Rattle.lists.proofs.FirstLaws.{otherwise-none, otherwise-some}
 use Rattle.numbers.specs.declared.Refusal.{Refusal}
 use Rattle.layout.specs.Parts.{ruleIn}
@@ -16,10 +17,11 @@ use Rattle.refusals.specs.Said.{saidOf}
 use Rattle.refusals.proofs.SaidLaws.{unless-true, unless-false}
 use Rattle.reading.specs.Cascade.{refusalOf}
 use Rattle.wording.specs.Script.{script}
-use Rattle.writer.specs.declared.Written.the-variants.{Script, Refused}
-use Rattle.room.specs.Room.{Wrote}
-use Rattle.writer.specs.Writes.{scriptRefusal, verdict, roomAfter, Writes}
+use Rattle.room.specs.Room.{over, Wrote}
 use Rattle.room.proofs.RoomLaws.{wrote-over}
+use Rattle.writer.specs.declared.Written.{Written}
+use Rattle.writer.specs.declared.Written.the-variants.{Script, Refused}
+use Rattle.writer.specs.Writes.{scriptRefusal, writtenSaid, verdict, roomAfter, Writes}
 
 module _ (s : List ℕ) where
   -- what the refusal makes of the answer and of the room
@@ -46,3 +48,20 @@ module _ (s : List ℕ) where
           answer = ap (λ (k : ℕ). (none, k)) (w .place ∙ zero-add _) ∙ ap (λ (o : Option Refusal). verdict o (script (ruleIn s))) (sym d);
           room = wrote-over w ∙ ap (λ (o : Option Refusal). roomAfter o (script (ruleIn s)) before) (sym d);
         }
+
+-- ---- a script that is written
+over-length : (t room : List ℕ) → length t ≤ length (over t room)
+unfolding over
+over-length t room = omega (arith, length-append t (drop (length t) room))
+
+module _ (s : List ℕ) {before after : List ℕ} {a : Written} (c : Writes s before a after) {n : ℕ} (d : a ≡ Script n) where
+  pub script-fits : n ≤ length after
+  script-fits = go (scriptRefusal s (length before)) (sym (c .answer) ∙ ap writtenSaid d) (c .room)
+    where
+      go : (o : Option Refusal) → verdict o (script (ruleIn s)) ≡ (none, n) → after ≡ roomAfter o (script (ruleIn s)) before → n ≤ length after
+      go none w e = omega (arith, over-length (script (ruleIn s)) before, ap length e, ap (λ (p : Option Refusal × ℕ). p .1) w)
+      go (some t) w e = absurd (let z : _≡_ {A = ℕ} 0 1 = cc (ap (λ (p : Option Refusal × ℕ). p .0) w) in omega arith)
+
+  -- the room's front of n bytes has n bytes
+  pub front-length : n ≡ length (take n after)
+  front-length = sym (length-take-le n after script-fits)

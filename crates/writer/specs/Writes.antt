@@ -19,6 +19,10 @@ use Rattle.room.specs.Room.{over}
 unfoldable pub scriptRefusal : List ℕ → ℕ → Option Refusal
 scriptRefusal s room = refusalOf s otherwise unless (leb (length (script (ruleIn s))) room) 9 (length (script (ruleIn s)))
 
+-- a room of so many bytes is enough for the script of every accepted sheet
+abbrev pub enoughRoom : ℕ
+enoughRoom = 4096
+
 -- what an answer says: the refusal and 0, or none and the bytes written
 abbrev pub writtenSaid : Written → Option Refusal × ℕ
 writtenSaid (Script n) = (none, n)

@@ -1,5 +1,4 @@
 -- `ragwashin_name` meets its contract: the code of the part that `name` hands back. Assumes nothing.
-use native.Mathlib.Omega.{arith}
 use borrow.Author.Needs.{needs}
 use Rattle.capi.proofs.CodeLaws.{name-part-size, no-name, some-name}
 use Rattle.capi.proofs.ragwashin_name.Statement.{statement}

@@ -3,9 +3,9 @@ use mathlib.Core.Path.{ap}
 use native.Mathlib.Omega.{arith}
 use borrow.Author.Needs.{needs}
 use lib.ListN.{length}
-use Rattle.writer.specs.Texts.{textAt}
+use Rattle.terms.specs.Texts.{textAt}
 use Rattle.room.proofs.RoomLaws.{wrote-as, chain3}
-use Rattle.writer.proofs.LineLaws.{goal-ready, goal-from}
+use Rattle.writer.proofs.ScriptLaws.{goal-ready, goal-from}
 use Rattle.writer.proofs.goal_lines.Statement.{statement}
 use Rattle.writer.proofs.goal_lines.Tie as tie
 

@@ -2,7 +2,7 @@
 use native.Mathlib.Omega.{arith}
 use borrow.Author.Needs.{needs}
 use Rattle.reading.proofs.RuleLaws.{accepted-counted}
-use Rattle.writer.proofs.LineLaws.{first-block}
+use Rattle.writer.proofs.ScriptLaws.{first-block}
 use Rattle.writer.proofs.goal_node.Statement.{statement}
 use Rattle.writer.proofs.goal_node.Tie as tie
 

@@ -3,7 +3,7 @@ use native.Mathlib.Omega.{arith}
 use borrow.Author.Needs.{needs}
 use Rattle.reading.proofs.RuleLaws.{accepted-counted}
 use Rattle.room.proofs.RoomLaws.{wrote-as, chain4}
-use Rattle.writer.proofs.LineLaws.{first-block, script-from, script-parts}
+use Rattle.writer.proofs.ScriptLaws.{first-block, script-from, script-parts}
 use Rattle.writer.proofs.put_script.Statement.{statement}
 use Rattle.writer.proofs.put_script.Tie as tie
 

@@ -7,8 +7,9 @@ use lib.ListN.{length}
 use Rattle.layout.specs.Parts.{ruleIn}
 use Rattle.reading.proofs.RuleLaws.{accepted-counted}
 use Rattle.wording.specs.Script.{script}
-use Rattle.writer.specs.Texts.{textAt, variablesLength}
-use Rattle.writer.proofs.LineLaws.{first-block, goal-ready, script-length, script-short}
+use Rattle.lines.specs.Lines.{variablesLength}
+use Rattle.terms.specs.Texts.{textAt}
+use Rattle.writer.proofs.ScriptLaws.{first-block, goal-ready, script-length, script-short}
 use Rattle.writer.proofs.script_len.Statement.{statement}
 use Rattle.writer.proofs.script_len.Tie as tie
 

@@ -1,0 +1,30 @@
+-- The lines of a script that are about variables, one by one, and how many bytes they are.
+use Prim.Native.Nat.{ℕ, zero, suc, _+_, _-_, _*_}
+use mathlib.Core.List.{List, [], _++_}
+use Rattle.lists.specs.Ascii.{ascii}
+use Rattle.layout.specs.Parts.{variableAt}
+use Rattle.wording.specs.Sixteen.{hexText, literal, symbolText, widthText}
+use Rattle.wording.specs.Script.{inDomain, declaration, assertion}
+
+-- variable i's declaration line and range line
+unfoldable pub declarationLine : ℕ → List ℕ
+declarationLine i = declaration literal symbolText widthText i ++ ascii "\n"
+
+unfoldable pub rangeLine : List ℕ → ℕ → List ℕ
+rangeLine s i = assertion literal symbolText widthText (inDomain i (variableAt s i .domain)) ++ ascii "\n"
+
+-- a range line in two parts, by the bits of the ends
+unfoldable pub rangeStart : ℕ → ℕ → List ℕ
+rangeStart low i = ascii "(assert (and (bvsle " ++ hexText low ++ ascii " " ++ symbolText i
+
+unfoldable pub rangeEnd : ℕ → ℕ → List ℕ
+rangeEnd i high = ascii ") (bvsle " ++ symbolText i ++ ascii " " ++ hexText high ++ ascii ")))\n"
+
+-- the lines of the first n variables
+unfoldable pub lines : (ℕ → List ℕ) → ℕ → List ℕ
+lines f zero = []
+lines f (suc n) = lines f n ++ f n
+
+-- how many bytes these are, both lines together: 85 for a variable, 3 more from variable 10 on
+abbrev pub variablesLength : ℕ → ℕ
+variablesLength n = 85 * n + 3 * (n - 10)

@@ -1,0 +1,31 @@
+-- The texts of nodes, by the sheet's records (document 01, column "text").
+use Prim.Native.Nat.{ℕ, _<_}
+use mathlib.Core.Path.{_≡_}
+use mathlib.Core.List.{List, []}
+use mathlib.Core.Option.{none}
+use Rattle.kinds.specs.declared.Record.{Record}
+use Rattle.layout.specs.Fold.{ofNode}
+use Rattle.layout.specs.Parts.{nodeCount, table}
+use Rattle.reading.specs.Cascade.{refusalOf}
+use Rattle.wording.specs.Words.{wordOf}
+use Rattle.wording.specs.Text.{call1, call2, call3, textStep}
+use Rattle.wording.specs.Sixteen.{literal, symbolText}
+
+-- the sheet is accepted, and n is one of its nodes
+pub record Ready (s : List ℕ) (n : ℕ) : Type 0 where
+  pub accepted : refusalOf s ≡ none
+  pub below : n < nodeCount s
+
+-- node n's text
+unfoldable pub textAt : List ℕ → ℕ → List ℕ
+textAt s n = ofNode (textStep literal symbolText) [] (table s) n
+
+-- the text of a node with one operand, two or three, by its record
+abbrev pub oneText : List ℕ → Record → List ℕ
+oneText s r = call1 (wordOf (r .kind)) (textAt s (r .a))
+
+abbrev pub twoText : List ℕ → Record → List ℕ
+twoText s r = call2 (wordOf (r .kind)) (textAt s (r .a)) (textAt s (r .b))
+
+abbrev pub threeText : List ℕ → Record → List ℕ
+threeText s r = call3 (wordOf (r .kind)) (textAt s (r .a)) (textAt s (r .b)) (textAt s (r .c))
