@@ -10,7 +10,7 @@ ghost use Rattle.reading.specs.Cascade.{refusalOf};
 ghost use Rattle.room.specs.Room.{Wrote};
 ghost use Rattle.answers.specs.Answers.{enoughRoom, decimal, signed, numbersLine, refusalLine, setting, answerText};
 ghost use Rattle.answers.specs.declared.Request.the-variants.{Read, Script, Check, Tally};
-ghost use Rattle.answers.specs.Pieces.{settingsAt, failsLine};
+ghost use Rattle.answers.specs.Pieces.{Settled, settingsAt, failsLine};
 use cases::Checked;
 use numbers::Refusal;
 use numbers::VariableNumber;
@@ -89,7 +89,7 @@ fn refused_line(room: &mut [u8], refusal: Refusal) -> usize
 // A variable's name and its value.
 fn put_setting(sheet: &[u8], n: VariableNumber, z: i16, room: &mut [u8], at: usize) -> usize
     requires { ⌜ (refusalOf (now sheet) ≡ none) × (n .0 < variableCount (now sheet)) × (at + 24 ≤ length (now room)) ⌝ }
-    ensures { λ r. ⌜ Wrote (setting (variableAt (now (sheet .entry)) (n .0) .name) z) (now (room .entry)) (now (room .exit)) at r ⌝ }
+    ensures { λ r. ⌜ Wrote (setting (variableAt (now (sheet .entry)) (n .0) .name) z) (now (room .entry)) (now (room .exit)) at r × (r ≤ at + 24) ⌝ }
 {
     let name = records::name_in(sheet, records::variable_place(n));
     let p = room::put(room, at, b" ");
@@ -100,8 +100,8 @@ fn put_setting(sheet: &[u8], n: VariableNumber, z: i16, room: &mut [u8], at: usi
 
 // Those of the first variables, by a row of values.
 fn put_settings(sheet: &[u8], row: &[i16; 16], count: usize, room: &mut [u8], at: usize) -> usize
-    requires { ⌜ (refusalOf (now sheet) ≡ none) × (count ≤ variableCount (now sheet)) × (at + 384 ≤ length (now room)) ⌝ }
-    ensures { λ r. ⌜ Wrote (settingsAt (now (sheet .entry)) (now (row .entry)) count) (now (room .entry)) (now (room .exit)) at r ⌝ }
+    requires { ⌜ Settled (now sheet) (now row) × (count ≤ variableCount (now sheet)) × (at + 384 ≤ length (now room)) ⌝ }
+    ensures { λ r. ⌜ Wrote (settingsAt (now (sheet .entry)) (now (row .entry)) count) (now (room .entry)) (now (room .exit)) at r × (r ≤ at + 384) ⌝ }
 {
     let mut next = at;
     let mut i: usize = 0;
@@ -114,7 +114,7 @@ fn put_settings(sheet: &[u8], row: &[i16; 16], count: usize, room: &mut [u8], at
 
 // The line of a check that fails with the row's values.
 fn fails_line(sheet: &[u8], row: &[i16; 16], room: &mut [u8]) -> usize
-    requires { ⌜ (refusalOf (now sheet) ≡ none) × (enoughRoom ≤ length (now room)) ⌝ }
+    requires { ⌜ Settled (now sheet) (now row) × (enoughRoom ≤ length (now room)) ⌝ }
     ensures { λ r. ⌜ Wrote (failsLine (now (sheet .entry)) (now (row .entry))) (now (room .entry)) (now (room .exit)) 0 r ⌝ }
 {
     let count = header::variable_count(sheet);
