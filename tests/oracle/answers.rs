@@ -117,11 +117,35 @@ impl Asked {
     }
 }
 
-/// What the program writes when it reads these bytes.
-pub fn program(input: &[u8]) -> String {
-    match reading::read(&input[..input.len().min(4_609)]) {
-        Ok(rule) => script::script(&rule),
-        Err(Refusal { number, place }) => format!("refused {} at {}\n", number, place),
+/// What the program writes about an input when asked with this word.
+pub fn said(word: &str, input: &[u8]) -> String {
+    let sheet = &input[..input.len().min(4_609)];
+    answer_to(word, sheet)
+        .unwrap_or_else(|Refusal { number, place }| format!("refused {} at {}\n", number, place))
+}
+
+fn answer_to(word: &str, sheet: &[u8]) -> Result<String, Refusal> {
+    let rule = reading::read(sheet)?;
+    match word {
+        "read" => Ok("accepted\n".to_string()),
+        "script" => Ok(script::script(&rule)),
+        "check" => Ok(checked(&rule, cases::first_failure(&rule, cases::count(&rule)?))),
+        "tally" => {
+            let (held, failed) = cases::tally(&rule, cases::count(&rule)?);
+            Ok(format!("held {} failed {}\n", held, failed))
+        }
+        _ => panic!("the program knows no word '{}'", word),
+    }
+}
+
+fn checked(rule: &Rule, failure: Option<Vec<i64>>) -> String {
+    match failure {
+        None => "holds\n".to_string(),
+        Some(case) => {
+            let settings = rule.variables.iter().zip(case);
+            let settings: String = settings.map(|(of, value)| format!(" {}={}", of.name, value)).collect();
+            format!("fails{}\n", settings)
+        }
     }
 }
 

@@ -4,6 +4,8 @@
 //   oracle             answers the questions of each trial
 //   oracle verdicts    says of each trial's sheet, one to a line: 'fails', 'holds' or 'refused'
 //   oracle program     writes what the program writes, with the same standard input
+//   oracle words WORD FILE..       writes what the program writes when called with these
+//   oracle sheets EVERY FOLDER     writes the sheet of every EVERYth trial to a file of its own
 //
 // A trial is: sheet length (u32), number of questions (u32), the sheet, then for each question its
 // subject (one byte: 1 read, 2 name, 3 block, 4 check, 5 tally, 6 script) and a number (u64). An answer is a u64 and,
@@ -20,22 +22,52 @@ mod trees;
 mod variables;
 
 use answers::Asked;
+use std::ffi::OsString;
+use std::fs;
 use std::io::{self, BufReader, BufWriter, Read, Write};
+use std::os::unix::ffi::OsStrExt;
 
 fn main() -> io::Result<()> {
     let mut input = BufReader::with_capacity(1 << 20, io::stdin());
     let mut output = BufWriter::with_capacity(1 << 20, io::stdout());
-    match std::env::args().nth(1).as_deref() {
-        None => answer(&mut input, &mut output)?,
-        Some("verdicts") => verdicts(&mut input, &mut output)?,
-        Some("program") => {
+    // Names of files are bytes.
+    let words: Vec<OsString> = std::env::args_os().skip(1).collect();
+    let named: Vec<&str> = words.iter().map_while(|word| word.to_str()).collect();
+    match named[..] {
+        [] => answer(&mut input, &mut output)?,
+        ["verdicts"] => verdicts(&mut input, &mut output)?,
+        ["program"] => {
             let mut bytes = Vec::new();
             input.read_to_end(&mut bytes)?;
-            output.write_all(answers::program(&bytes).as_bytes())?;
+            output.write_all(answers::said("script", &bytes).as_bytes())?;
         }
-        Some(word) => panic!("'{}' is nothing that the oracle knows", word),
+        ["words", word, ..] => answer_words(word, &words[2..], &mut output)?,
+        ["sheets", every, folder] => write_sheets(&mut input, every.parse().unwrap(), folder)?,
+        _ => panic!("{:?} is nothing that the oracle knows", words),
     }
     output.flush()
+}
+
+fn answer_words(word: &str, files: &[OsString], output: &mut impl Write) -> io::Result<()> {
+    for file in files {
+        if files.len() > 1 {
+            output.write_all(file.as_bytes())?;
+            output.write_all(b": ")?;
+        }
+        output.write_all(answers::said(word, &fs::read(file)?).as_bytes())?;
+    }
+    Ok(())
+}
+
+fn write_sheets(input: &mut impl Read, every: usize, folder: &str) -> io::Result<()> {
+    let mut number = 0;
+    while let Some((sheet, _)) = next_trial(input)? {
+        if number % every == 0 {
+            fs::write(format!("{}/{}", folder, number), sheet)?;
+        }
+        number += 1;
+    }
+    Ok(())
 }
 
 fn answer(input: &mut impl Read, output: &mut impl Write) -> io::Result<()> {

@@ -1,33 +1,217 @@
-// Reads a sheet from standard input and writes its script, or one line with its refusal.
+// Answers requests about sheets, in files or on standard input; with no word it writes the script.
+ghost use mathlib.Core.Path.{_≡_};
+ghost use Rattle.records.specs.Variables.{sameBytes};
+ghost use Rattle.ragwashin.specs.Words.{meant, wordOf, isLine};
+use answers::Request;
+use libc::STDERR_FILENO;
 use libc::STDIN_FILENO;
 use libc::STDOUT_FILENO;
-use numbers::Refusal;
-use writer::Written;
 
-// `refused R at P` and a line feed.
-fn say_refused(refusal: Refusal) {
-    io::write_all(STDOUT_FILENO, b"refused ");
-    io::print_decimal(STDOUT_FILENO, refusal.number as u64);
-    io::write_all(STDOUT_FILENO, b" at ");
-    io::print_decimal(STDOUT_FILENO, refusal.place as u64);
-    io::write_all(STDOUT_FILENO, b"\n");
+// One byte more than the longest sheet has: a longer input is refused by its length.
+const MOST_READ: usize = 4609;
+
+// Behind the program's name and the word.
+const FIRST_FILE: usize = 2;
+
+// What the first word is.
+enum Word {
+    Unknown,
+    Help,
+    Asks(Request),
 }
 
-// 4,096 bytes of room are enough for every script.
-fn answer(sheet: &[u8]) {
-    let mut room = io::buffer();
-    let written = writer::write_script(sheet, &mut room);
-    match written {
-        Written::Script(size) => {
-            io::write_all(STDOUT_FILENO, &room[..size]);
+// Whether two texts are the same, byte for byte.
+fn same_text(a: &[u8], b: &[u8]) -> bool
+    ensures { λ r. ⌜ r ≡ sameBytes (now (a .entry)) (now (b .entry)) ⌝ }
+{
+    if a.len() != b.len() {
+        return false;
+    }
+    let mut i = 0;
+    while i < a.len() {
+        if a[i] != b[i] {
+            return false;
         }
-        Written::Refused(refusal) => say_refused(refusal),
+        i += 1;
+    }
+    true
+}
+
+// What a text means: this, where it is the word, or else what it means without that word.
+fn meaning(text: &[u8], word: &[u8], this: Word, other: Word) -> Word
+    ensures { λ r. ⌜ r ≡ meant (sameBytes (now (text .entry)) (now (word .entry))) this other ⌝ }
+{
+    if same_text(text, word) {
+        return this;
+    }
+    other
+}
+
+fn word_of(text: &[u8]) -> Word
+    ensures { λ r. ⌜ r ≡ wordOf (now (text .entry)) ⌝ }
+{
+    let help = meaning(text, b"--help", Word::Help, Word::Unknown);
+    let tally = meaning(text, b"tally", Word::Asks(Request::Tally), help);
+    let check = meaning(text, b"check", Word::Asks(Request::Check), tally);
+    let script = meaning(text, b"script", Word::Asks(Request::Script), check);
+    meaning(text, b"read", Word::Asks(Request::Read), script)
+}
+
+// Answers of one line can follow one another; scripts cannot.
+fn is_line(request: Request) -> bool
+    ensures { λ r. ⌜ r ≡ isLine request ⌝ }
+{
+    match request {
+        Request::Read => true,
+        Request::Script => false,
+        Request::Check => true,
+        Request::Tally => true,
     }
 }
 
-// One byte more than the longest sheet has: a longer input is refused by its length.
+// What failed, of which input, and the system's reason.
+fn say_failed(name: &[u8], what: &[u8]) {
+    io::write_all(STDERR_FILENO, b"ragwashin: ");
+    io::write_all(STDERR_FILENO, name);
+    io::write_all(STDERR_FILENO, b": ");
+    os::fail(what);
+}
+
+// An argument that is too long for any file's name is told by its place.
+fn say_unheld(place: usize) {
+    io::write_all(STDERR_FILENO, b"ragwashin: argument ");
+    io::print_decimal(STDERR_FILENO, place as u64);
+    os::fail(b"");
+}
+
+fn say_unknown(word: &[u8]) {
+    io::write_all(STDERR_FILENO, b"ragwashin: unknown word '");
+    io::write_all(STDERR_FILENO, word);
+    io::write_all(STDERR_FILENO, b"' (ragwashin --help lists the words)\n");
+}
+
+fn say_one_script() {
+    io::write_all(
+        STDERR_FILENO,
+        b"ragwashin: script takes one file, and several are named: nothing is written\n",
+    );
+}
+
+// A name stands before an answer where several files are named.
+fn write_line(name: &[u8], is_named: bool, text: &[u8]) -> bool {
+    if is_named {
+        if !io::write_all(STDOUT_FILENO, name) {
+            return false;
+        }
+        if !io::write_all(STDOUT_FILENO, b": ") {
+            return false;
+        }
+    }
+    io::write_all(STDOUT_FILENO, text)
+}
+
+// Only a read that answers 0 tells that an input has ended, and not that a read of it failed.
+fn has_ended(fd: i32, size: usize) -> bool {
+    if size == MOST_READ {
+        return true;
+    }
+    let mut next = [0u8; 1];
+    libc::read(fd, &mut next) == 0
+}
+
+// Answers one input.
+fn answer(request: Request, fd: i32, name: &[u8], is_named: bool) {
+    let mut input = [0u8; MOST_READ];
+    let size = io::read_full(fd, &mut input);
+    if !has_ended(fd, size) {
+        say_failed(name, b"cannot be read");
+        return;
+    }
+    let mut room = io::buffer();
+    let length = answers::answer(request, &input[..size], &mut room);
+    if !write_line(name, is_named, &room[..length]) {
+        say_failed(name, b"its answer cannot be written");
+    }
+}
+
+// Answers the file that an argument names.
+fn answer_file(request: Request, place: usize, is_named: bool) {
+    let mut path = io::buffer();
+    let size = os::arg(place, &mut path);
+    if os::errno() != 0 {
+        say_unheld(place);
+        return;
+    }
+    let fd = os::open_read(&path[..size]);
+    if fd < 0 {
+        say_failed(&path[..size], b"cannot be opened");
+        return;
+    }
+    answer(request, fd, &path[..size], is_named);
+    libc::close(fd);
+}
+
+// Answers each file up to the last argument, whatever became of those before it.
+fn answer_files(request: Request, arguments: usize) {
+    for place in FIRST_FILE..arguments {
+        answer_file(request, place, true);
+    }
+}
+
+fn answer_all(request: Request, arguments: usize) {
+    if arguments <= FIRST_FILE {
+        answer(request, STDIN_FILENO, b"standard input", false);
+    } else if arguments == FIRST_FILE + 1 {
+        answer_file(request, FIRST_FILE, false);
+    } else if is_line(request) {
+        answer_files(request, arguments);
+    } else {
+        say_one_script();
+    }
+}
+
+fn help() {
+    let is_written = io::write_all(
+        STDOUT_FILENO,
+        b"usage: ragwashin [WORD [FILE ...]]
+
+Answers each FILE, a rule sheet, in a line; standard input where none is named.
+
+  read    accepted
+  check   holds, or fails NAME=VALUE ...: the first failing case
+  tally   held H failed F: how many cases held and how many failed
+  script  the script for an SMT solver, of one FILE; so too where WORD is left out
+  --help  this text
+
+A sheet that is turned away is answered by 'refused R at P'. Where two or more
+files are named, 'FILE: ' stands before each answer.
+
+Exit status of ./ragwashin: 0 accepted, holds, written, or none failed; 1 fails,
+or some failed; 2 refused; 3 anything else, with a message on standard error. Of
+several files the highest.
+",
+    );
+    if !is_written {
+        say_failed(b"--help", b"cannot be written");
+    }
+}
+
 fn main() {
-    let mut input = [0u8; 4609];
-    let size = io::read_full(STDIN_FILENO, &mut input);
-    answer(&input[..size]);
+    let arguments = os::arg_count();
+    if arguments < FIRST_FILE {
+        answer_all(Request::Script, arguments);
+        return;
+    }
+    let mut text = io::buffer();
+    let size = os::arg(1, &mut text);
+    if os::errno() != 0 {
+        say_unheld(1);
+        return;
+    }
+    let word = word_of(&text[..size]);
+    match word {
+        Word::Unknown => say_unknown(&text[..size]),
+        Word::Help => help(),
+        Word::Asks(request) => answer_all(request, arguments),
+    }
 }

@@ -1,0 +1,4 @@
+pub mod DecimalLaws
+pub mod SignedLaws
+pub mod SettingLaws
+pub mod AnswerLaws

@@ -1,0 +1,33 @@
+-- `fails_line` meets its contract: the word, each variable with its value, and the line's end. Assumes nothing.
+use native.Mathlib.Omega.{arith}
+use borrow.Author.Needs.{needs}
+use Rattle.room.proofs.RoomLaws.{wrote-as, chain3}
+use Rattle.answers.proofs.SettingLaws.{fails-from}
+use Rattle.writer.proofs.LineLaws.{first-block}
+use Rattle.answers.proofs.fails_line.Statement.{statement}
+use Rattle.answers.proofs.fails_line.Tie as tie
+
+variable-count-requires : tie.Need-variable-count-requires
+variable-count-requires c κs = first-block _ (c .before .before .pre .0 .accepted)
+
+put-settings-requires : tie.Need-put-settings-requires
+put-settings-requires c κs = (c .before .before .before .before .before .before .before .before .before .pre .0, omega (arith, c .before .before .before .before .before .before .variable-count .ensures), omega arith)
+
+put-requires-2 : tie.Need-put-requires-2
+put-requires-2 c κs = omega arith
+
+returns : tie.Need-returns
+returns c = wrote-as (chain3 (omega (arith, c .before .before .before .before .before .before .before .before .before .before .before .put .ensures .place, c .before .before .before .before .before .before .before .put-settings .ensures .0 .place)) (c .before .before .before .before .before .before .before .before .before .before .before .put .ensures) (c .before .before .before .before .before .before .before .put-settings .ensures .0) (c .before .before .put2 .ensures)) (fails-from _ _ (c .before .before .before .before .before .before .before .before .before .before .before .before .before .before .variable-count .ensures))
+
+pub fails-line-spec : {M : Type 1} → statement M
+fails-line-spec =
+    tie.close
+    (tie.spec
+    variable-count-requires
+    (λ c. search needs)
+    (λ c κs. search needs)
+    put-settings-requires
+    (λ c. search needs)
+    put-requires-2
+    (λ c. search needs)
+    returns)

@@ -1,0 +1,55 @@
+-- `put_settings` meets its contract: after i turns the room has the first i variables in it, at most 24 bytes for each. Assumes nothing.
+use Prim.Native.Nat.{_+_, _-_, _*_, _≤_}
+use mathlib.Core.Path.{_≡_, ap}
+use native.Mathlib.Omega.{arith}
+use lib.ListN.{length}
+use Rattle.room.proofs.RoomLaws.{wrote-as}
+use Rattle.answers.proofs.SettingLaws.{few-variables, begin, turn}
+use Rattle.room.specs.Room.{Wrote}
+use Rattle.answers.specs.Pieces.{settingsAt}
+use Rattle.answers.proofs.put_settings.Statement.{statement}
+use Rattle.answers.proofs.put_settings.Tie as tie
+
+abbrev Inv-loop : tie.InvT-loop
+Inv-loop sheet row count room₀ at next₀ i₀ room next i = (i ≤ count) × (next ≤ at + 24 * i) × (length room ≡ length room₀) × Wrote (settingsAt sheet row i) room₀ room at next
+
+abbrev μ-loop : tie.MeasureT-loop
+μ-loop sheet row count room₀ at next₀ i₀ room next i = count - i
+
+loop-holds : tie.Need-loop-holds Inv-loop μ-loop
+loop-holds c = (omega arith, omega arith, omega arith, begin _ _ _ _)
+
+cast-t9 : tie.Need-cast-t9 Inv-loop μ-loop
+cast-t9 c = omega (arith, few-variables _ (c .before .before .before .before .pre .0 .accepted))
+
+mul-put-setting : tie.Need-mul-put-setting Inv-loop μ-loop
+mul-put-setting c = omega (arith, few-variables _ (c .before .before .before .before .pre .0 .accepted))
+
+element-copy-out-put-setting : tie.Need-element-copy-out-put-setting Inv-loop μ-loop
+element-copy-out-put-setting c = omega (arith, few-variables _ (c .before .before .before .before .pre .0 .accepted))
+
+put-setting-requires : tie.Need-put-setting-requires Inv-loop μ-loop
+put-setting-requires c κs = (c .before .before .before .before .before .before .pre .0 .accepted, omega arith, omega (arith, few-variables _ (c .before .before .before .before .before .before .pre .0 .accepted)))
+
+loop-again : tie.Need-loop-again Inv-loop μ-loop
+loop-again c = (omega arith, omega arith, omega arith, turn _ _ _ (c .before .before .before .before .before .before .before .before .before .pre .0 .narrow _ (omega arith)) (omega (arith, few-variables _ (c .before .before .before .before .before .before .before .before .before .pre .0 .accepted))) (c .before .before .before .before .before .before .loop .inv .3) (c .before .before .put-setting .ensures .0))
+
+returns : tie.Need-returns Inv-loop μ-loop
+returns c = let e : c .before .loop .i ≡ c .before .before .before .before .args .count = omega arith in (wrote-as (c .before .loop .inv .3) (ap (settingsAt _ _) e), omega (arith, few-variables _ (c .before .before .before .before .pre .0 .accepted)))
+
+pub put-settings-spec : {M : Type 1} → statement M
+put-settings-spec =
+    tie.close
+    (tie.spec
+    Inv-loop
+    μ-loop
+    loop-holds
+    cast-t9
+    mul-put-setting
+    element-copy-out-put-setting
+    put-setting-requires
+    (λ c. omega arith)
+    (λ c. omega arith)
+    loop-again
+    (λ c. omega arith)
+    returns)

@@ -1,0 +1,36 @@
+-- `put_signed` meets its contract: the sign of a number below zero, and the digits. Assumes nothing.
+use native.Mathlib.Omega.{arith}
+use borrow.Author.Needs.{needs}
+use Rattle.room.proofs.RoomLaws.{wrote-as, chain}
+use Rattle.answers.proofs.SignedLaws.{minus-length, plain-length, minus-text, plain-text}
+use Rattle.answers.proofs.put_signed.Statement.{statement}
+use Rattle.answers.proofs.put_signed.Tie as tie
+
+put-requires : tie.Need-put-requires
+put-requires c κs = omega (arith, minus-length (c .before .before .before .before .before .fits .z) (c .before .before .before .magnitude .ensures) (c .before .before .if1 .taken))
+
+put-decimal-requires : tie.Need-put-decimal-requires
+put-decimal-requires c κs = omega (arith, minus-length (c .before .before .before .before .before .before .before .before .before .fits .z) (c .before .before .before .before .before .before .before .magnitude .ensures) (c .before .before .before .before .before .before .if1 .taken))
+
+returns : tie.Need-returns
+returns c = wrote-as (chain (omega (arith, minus-length (c .before .before .before .before .before .before .before .before .before .before .before .before .fits .z) (c .before .before .before .before .before .before .before .before .before .before .magnitude .ensures) (c .before .before .before .before .before .before .before .before .before .if1 .taken))) (c .before .before .before .before .before .before .put .ensures) (c .before .before .put-decimal .ensures)) (minus-text (c .before .before .before .before .before .before .before .before .before .before .before .before .fits .z) (c .before .before .before .before .before .before .before .before .before .before .magnitude .ensures) (c .before .before .before .before .before .before .before .before .before .if1 .taken))
+
+put-decimal-requires-2 : tie.Need-put-decimal-requires-2
+put-decimal-requires-2 c κs = omega (arith, plain-length (c .before .before .before .before .fits .z) (c .before .before .magnitude .ensures) (c .before .if1 .left))
+
+returns-2 : tie.Need-returns-2
+returns-2 c = wrote-as (c .before .before .put-decimal2 .ensures) (plain-text (c .before .before .before .before .before .before .before .fits .z) (c .before .before .before .before .before .magnitude .ensures) (c .before .before .before .before .if1 .left))
+
+pub put-signed-spec : {M : Type 1} → statement M
+put-signed-spec =
+    tie.close
+    (tie.spec
+    (λ c κs. search needs)
+    (λ c. search needs)
+    put-requires
+    put-decimal-requires
+    (λ c. search needs)
+    returns
+    put-decimal-requires-2
+    (λ c. search needs)
+    returns-2)

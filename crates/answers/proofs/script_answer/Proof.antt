@@ -1,0 +1,24 @@
+-- `script_answer` meets its contract: the script fits, and a refusal leaves the room as it was. Assumes nothing.
+use borrow.Author.Needs.{needs}
+use Rattle.answers.proofs.AnswerLaws.{script-written, script-refused, wrote-from}
+use Rattle.answers.proofs.script_answer.Statement.{statement}
+use Rattle.answers.proofs.script_answer.Tie as tie
+
+returns : tie.Need-returns
+returns c = script-written _ (c .before .before .before .before .before .before .before .before .before .pre) (c .before .before .before .before .before .write-script .ensures) (c .before .size .given .1)
+
+returns-2 : tie.Need-returns-2
+returns-2 c = wrote-from (script-refused _ (c .before .before .before .before .before .before .before .before .before .before .before .before .before .pre) (c .before .before .before .before .before .before .before .before .before .write-script .ensures) (c .before .before .before .before .before .refusal .given .1)) (c .before .before .refused-line .ensures)
+
+pub script-answer-spec : {M : Type 1} → statement M
+script-answer-spec =
+    tie.close
+    (tie.spec
+    (λ c κs. search needs)
+    (λ c. search needs)
+    (λ c. search needs)
+    (λ c κs. search needs)
+    (λ c. search needs)
+    returns
+    (λ c. search needs)
+    returns-2)

@@ -1,0 +1,30 @@
+-- The pieces of a failing check's line, by the numbers of the variables, and what is asked of the row of values.
+use Prim.Native.Nat.{ℕ, _<_}
+use mathlib.Core.Path.{_≡_}
+use mathlib.Core.List.{List, _++_}
+use mathlib.Core.Option.{none}
+use lib.IntN.{ℤ, pos}
+use lib.ListN.{getD}
+use Rattle.lists.specs.Ascii.{ascii}
+use Rattle.numbers.specs.Ranges.{Narrow}
+use Rattle.layout.specs.Parts.{variableCount, variableAt}
+use Rattle.reading.specs.Cascade.{refusalOf}
+use Rattle.writer.specs.Texts.{lines}
+use Rattle.answers.specs.Answers.{setting}
+
+-- the sheet is accepted, and the row's values of its variables have 16 bits
+pub record Settled (s : List ℕ) (row : List ℤ) : Type 0 where
+  pub accepted : refusalOf s ≡ none
+  pub narrow : (i : ℕ) → i < variableCount s → Narrow (getD row i (pos 0))
+
+-- variable i's name and the row's value for it
+unfoldable pub settingAt : List ℕ → List ℤ → ℕ → List ℕ
+settingAt s row i = setting (variableAt s i .name) (getD row i (pos 0))
+
+-- those of the first n variables
+unfoldable pub settingsAt : List ℕ → List ℤ → ℕ → List ℕ
+settingsAt s row n = lines (settingAt s row) n
+
+-- the line of a check that fails with the row's values
+unfoldable pub failsLine : List ℕ → List ℤ → List ℕ
+failsLine s row = ascii "fails" ++ settingsAt s row (variableCount s) ++ ascii "\n"
