@@ -1,12 +1,12 @@
 -- Each promise with a premise, applied to sheet A of document 01, whose rule fails in two of four cases, and to the sheet of edge case 11 (-3..2 times -4..5 is at
 -- most 12), whose rule holds in all 60; and to these sheets with other names. So each premise is seen to be met. Assumes nothing.
 use Prim.Native.Nat.{ℕ, _+_, _/_, _≤_, _<_}
-use mathlib.Core.Path.{_≡_, refl, sym, ap, _∙_}
+use mathlib.Core.Path.{_≡_, refl, sym, _∙_}
 use mathlib.Core.Bool.{true}
 use mathlib.Core.List.{List, [], _∷_, _++_}
 use mathlib.Core.Option.{Option, none, some}
 use native.Mathlib.Omega.{arith}
-use lib.Dec.{lit<, lit≤}
+use lib.Dec.{lit≤}
 use lib.IntN.{ℤ, pos, negsuc}
 use lib.ListN.{length, set, drop}
 use Rattle.lists.specs.Places.{allBelow}
@@ -25,7 +25,7 @@ use Rattle.layout.specs.Limits.{blockBytes}
 use Rattle.layout.specs.Checks.{weighted, checkOf, blockRight}
 use Rattle.layout.specs.Starts.{startAt}
 use Rattle.layout.specs.Goal.{treeAt}
-use Rattle.layout.specs.Parts.{nodeCount, variableCount, ruleIn, Nameless}
+use Rattle.layout.specs.Parts.{nodeCount, variableCount, ruleIn}
 use Rattle.layout.specs.Sheet.{sheetOf}
 use Rattle.layout.specs.Fold.{ofTree, ofNode}
 use Rattle.layout.proofs.Example.{areBytes, bytes-by}
@@ -43,9 +43,7 @@ use Rattle.reading.specs.Lawful.{Allowed}
 use Rattle.reading.proofs.Exact.{refused-exactly, accepted-exactly}
 use Rattle.reading.proofs.Ranges.{nodeValue, in-range, in-16-bits}
 use Rattle.odometer.specs.Limit.{mostCases, caseCount}
-use Rattle.cases.specs.declared.Checked.{Checked}
 use Rattle.cases.specs.declared.Checked.the-variants.{Holds, Fails}
-use Rattle.cases.specs.declared.Tallied.{Tallied}
 use Rattle.cases.specs.Checks.{Checks}
 use Rattle.cases.specs.Tallies.{Tallies}
 use Rattle.smtlib.specs.Satisfaction.{Satisfies}
@@ -54,7 +52,7 @@ use Rattle.wording.specs.Sixteen.{hexDigit, hexText, literal, symbolText}
 use Rattle.wording.specs.Script.{joined, script}
 use Rattle.writer.specs.Writes.{enoughRoom}
 use Rattle.agreement.specs.Starred.{block, case1, case8, case11}
-use Rattle.agreement.specs.Statements.{Sheet, settingOf, Matched, Listed}
+use Rattle.agreement.specs.Statements.{Sheet, Matched, Listed}
 use Rattle.agreement.proofs.Proved.{tallied, checked, sheet-of-rule, rule-of-sheet, one-byte-changed, holds-where, room-enough, match, check-agrees, tally-agrees, same-script}
 
 -- ---- what is computed of a sheet of two variables, and of one with other names

@@ -2,14 +2,13 @@
 use mathlib.Core.Path.{_≡_, refl, sym, ap₂, _∙_}
 use mathlib.Core.Bool.{Bool, true, false}
 use mathlib.Core.List.{List, _++_}
-use mathlib.Core.Option.{Option, none, some}
 use Prim.Native.Nat.{ℕ}
 use native.Mathlib.Omega.{arith}
 use lib.IntN.{ℤ}
 use lib.ListN.{take, drop, take-append-drop}
 use Rattle.lists.proofs.PartLaws.{part-once}
 use Rattle.numbers.specs.declared.Range.{Range}
-use Rattle.meaning.specs.Odometer.{told, next, Lowered, Advanced}
+use Rattle.meaning.specs.Odometer.{told, Lowered, Advanced}
 use Rattle.refusals.proofs.SaidLaws.{said-once}
 use Rattle.blocks.proofs.Unique.{block-once}
 use Rattle.reading.proofs.Unique.{read-once, name-once}

@@ -1,6 +1,6 @@
 -- The promises of `specs/Statements`, proved. Assumes nothing.
-use Prim.Native.Nat.{ℕ, suc, _+_, _≤_, _<_}
-use mathlib.Core.Path.{_≡_, refl, sym, ap, subst, _∙_}
+use Prim.Native.Nat.{ℕ, suc, _≤_}
+use mathlib.Core.Path.{_≡_, refl, ap, subst, _∙_}
 use mathlib.Core.Logic.{_↔_, Iff·trans}
 use mathlib.Core.List.{List, [], _∷_, map, List·Memᴰ, Memᴰ·map, Memᴰ·of-map}
 use mathlib.Core.Option.{none, some}
@@ -8,33 +8,30 @@ use native.Mathlib.Omega.{arith}
 use lib.IntN.{ℤ}
 use lib.ListN.{length, take, length-map}
 use Rattle.lists.specs.Places.{from, NoRepeats}
-use Rattle.numbers.specs.Two.{enc}
 use Rattle.numbers.proofs.Bytes16.{narrow-within}
 use Rattle.numbers.proofs.NarrowLaws.{in-narrow}
 use Rattle.meaning.specs.declared.Sort.{Sort}
 use Rattle.meaning.specs.declared.Sort.the-variants.{Truth, Integer}
 use Rattle.meaning.specs.Tree.{Tree}
-use Rattle.meaning.specs.Rule.{Variable, Rule, domainOf, Case, valueIn}
+use Rattle.meaning.specs.Rule.{Variable, domainOf, Case, valueIn}
 use Rattle.meaning.specs.Cases.{Failing, failures}
 use Rattle.meaning.proofs.Counts.{case-count, held-failed}
 use Rattle.meaning.proofs.Repeats.{map-no-repeats}
 use Rattle.meaning.proofs.Failures.{failures-are, failures-once, failed-is, first-fails, first-some}
-use Rattle.kinds.specs.Rows.{Throughout}
 use Rattle.kinds.proofs.ClaimLaws.{follows}
 use Rattle.layout.specs.Parts.{variableCount, ruleIn, LaidOut}
 use Rattle.layout.specs.Sheet.{sheetOf}
 use Rattle.layout.proofs.PartLaws.{variable-total}
 use Rattle.layout.proofs.SheetBack.{sheet-laid-out}
-use Rattle.layout.proofs.Agree.{Alike, lengths, agrees}
+use Rattle.layout.proofs.Agree.{lengths, agrees}
 use Rattle.findings.proofs.SoundFindings.{tree-range, value-in}
-use Rattle.reading.specs.Cascade.{refusalOf, ruleOf}
+use Rattle.reading.specs.Cascade.{refusalOf}
 use Rattle.reading.specs.Lawful.{FitsIn, Allowed}
 use Rattle.reading.proofs.Exact.{refused-exactly, accepted-exactly}
 use Rattle.reading.proofs.RuleLaws.{accepted-means, rule-some, rule-exactly, rule-to-sheet, rule-allowed, sheet-to-rule}
 use Rattle.reading.proofs.Change.{changed-byte}
 use Rattle.reading.proofs.Ranges.{case-in}
 use Rattle.odometer.specs.Limit.{mostCases, caseCount}
-use Rattle.cases.specs.declared.Checked.{Checked}
 use Rattle.cases.specs.declared.Checked.the-variants.{Fails}
 use Rattle.cases.specs.Checks.{tryRefusal, checkRefusal}
 use Rattle.cases.proofs.Exact.{tally-none, check-none}
@@ -44,7 +41,7 @@ use Rattle.smtlib.specs.Commands.{Declaration}
 use Rattle.smtlib.specs.Satisfaction.{declaredBy, declared, Satisfies}
 use Rattle.wording.specs.Sixteen.{symbolText}
 use Rattle.wording.specs.Script.{script}
-use Rattle.wording.proofs.Sexps.{declares, constant16, asked16}
+use Rattle.wording.proofs.Sexps.{declares, constant16}
 use Rattle.wording.proofs.Injective.{script-injective}
 use Rattle.wording.proofs.Forms.{form16, script-by, script-read}
 use Rattle.wording.proofs.MeansTrees.{NoWrap}

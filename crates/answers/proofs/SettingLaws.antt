@@ -1,12 +1,12 @@
 -- The names and values of a case, one variable after another. Assumes nothing.
 use Prim.Native.Nat.{ℕ, zero, suc, _+_, _≤_, _<_, min}
-use mathlib.Core.Path.{_≡_, refl, sym, ap, ap₂, _∙_}
-use mathlib.Core.List.{List, [], _∷_, _++_, append-assoc, append-nil}
+use mathlib.Core.Path.{_≡_, sym, ap, _∙_}
+use mathlib.Core.List.{List, _++_, append-assoc, append-nil}
 use mathlib.Core.Option.{none}
 use native.Mathlib.Nat.{add-zero, zero-add, add-suc, suc-add}
 use native.Mathlib.Omega.{arith}
 use lib.IntN.{ℤ, pos}
-use lib.ListN.{length, getD, take, drop, length-append, length-take}
+use lib.ListN.{length, getD, take, drop, length-take}
 use mir.Syntax.{w16}
 use mir.Val.{SFits, toZ, ofZ}
 use Rattle.lists.specs.Ascii.{ascii}
@@ -14,14 +14,13 @@ use Rattle.lists.specs.Places.{at, from}
 use Rattle.lists.proofs.RunLaws.{stands-from, run-part}
 use Rattle.numbers.specs.Ranges.{Narrow}
 use Rattle.numbers.proofs.Fit.{i16-of-narrow}
-use Rattle.layout.specs.Limits.{mostVariables, mostNameBytes, variablePlace}
+use Rattle.layout.specs.Limits.{mostVariables, mostNameBytes, variablePlace, nameStart}
 use Rattle.layout.specs.Parts.{variableCount, variableAt, nameSize, nameIn, ruleIn}
 use Rattle.reading.specs.Cascade.{refusalOf}
 use Rattle.reading.proofs.RuleLaws.{accepted-counted, accepted-kept}
-use Rattle.room.specs.Room.{Wrote}
+use Rattle.room.specs.Room.{Wrote, texts}
 use Rattle.room.proofs.RoomLaws.{wrote-as, chain}
-use Rattle.writer.specs.Texts.{lines}
-use Rattle.writer.proofs.LineLaws.{lines-more, wrote-no-lines}
+use Rattle.room.proofs.TextLaws.{texts-more, wrote-no-texts}
 use Rattle.answers.specs.Answers.{signed, setting, settings}
 use Rattle.answers.specs.Pieces.{settingAt, settingsAt, failsLine}
 use Rattle.answers.proofs.SignedLaws.{kept-is}
@@ -32,7 +31,7 @@ module _ (s : List ℕ) (e : refusalOf s ≡ none) where
   few-variables = accepted-counted s e .few
 
   module _ {i p : ℕ} (h : i < variableCount s) (ep : p ≡ variablePlace i) where
-    pub record-inside : p + 261 ≤ length s
+    pub record-inside : p + nameStart + 255 ≤ length s
     record-inside =
         let c = accepted-counted s e in
         let z = c .size in
@@ -57,11 +56,11 @@ module _ (s : List ℕ) (e : refusalOf s ≡ none) where
 -- ---- one variable more
 pub begin : (s : List ℕ) (row : List ℤ) (room : List ℕ) (at : ℕ) → Wrote (settingsAt s row 0) room room at at
 unfolding settingsAt
-begin s row room at = wrote-no-lines (settingAt s row) room at
+begin s row room at = wrote-no-texts (settingAt s row) room at
 
 pub turn : (s : List ℕ) (row : List ℤ) (i : ℕ) {r₀ r₁ r₂ : List ℕ} {at p q : ℕ} → Narrow (getD row i (pos 0)) → p ≤ length r₀ → Wrote (settingsAt s row i) r₀ r₁ at p → Wrote (setting (variableAt s i .name) (toZ w16 (ofZ w16 (getD row i (pos 0))))) r₁ r₂ p q → Wrote (settingsAt s row (i + 1)) r₀ r₂ at q
 unfolding settingsAt settingAt
-turn s row i n h a b = wrote-as (chain (omega (arith, a .place)) a b) (ap (λ (z : ℤ). lines (settingAt s row) i ++ setting (variableAt s i .name) z) (kept-is (i16-of-narrow n)) ∙ lines-more (settingAt s row) i)
+turn s row i n h a b = wrote-as (chain (omega (arith, a .place)) a b) (ap (λ (z : ℤ). texts (settingAt s row) i ++ setting (variableAt s i .name) z) (kept-is (i16-of-narrow n)) ∙ texts-more (settingAt s row) i)
 
 pub fails-from : (s : List ℕ) (row : List ℤ) {n : ℕ} → n ≡ variableCount s → ascii "fails" ++ settingsAt s row n ++ ascii "\n" ≡ failsLine s row
 unfolding failsLine
@@ -69,19 +68,19 @@ fails-from s row e = rw e
 
 -- ---- by their numbers, and as lists
 module _ (s : List ℕ) (row : List ℤ) where
-  listed : (i k : ℕ) → lines (settingAt s row) i ++ settings (from (variableAt s) i k) (from (at (pos 0) row) i k) ≡ lines (settingAt s row) (i + k)
-  unfolding lines settings settingAt
-  listed i zero = append-nil _ ∙ ap (lines (settingAt s row)) (sym (add-zero i))
+  listed : (i k : ℕ) → texts (settingAt s row) i ++ settings (from (variableAt s) i k) (from (at (pos 0) row) i k) ≡ texts (settingAt s row) (i + k)
+  unfolding texts settings settingAt
+  listed i zero = append-nil _ ∙ ap (texts (settingAt s row)) (sym (add-zero i))
   listed i (suc k) =
-      sym (append-assoc (lines (settingAt s row) i) (settingAt s row i) (settings (from (variableAt s) (suc i) k) (from (at (pos 0) row) (suc i) k)))
+      sym (append-assoc (texts (settingAt s row) i) (settingAt s row i) (settings (from (variableAt s) (suc i) k) (from (at (pos 0) row) (suc i) k)))
       ∙ listed (suc i) k
-      ∙ ap (lines (settingAt s row)) (suc-add i k ∙ sym (add-suc i k))
+      ∙ ap (texts (settingAt s row)) (suc-add i k ∙ sym (add-suc i k))
 
   pub settings-are : {c : List ℤ} → take (variableCount s) row ≡ c → length c ≡ variableCount s → settingsAt s row (variableCount s) ≡ settings (ruleIn s .variables) c
-  unfolding settingsAt lines
+  unfolding settingsAt texts
   settings-are {c} e n =
       let v = variableCount s in
       let h : v ≤ length row = omega (arith, length-take v row, ap length e) in
       let l : length (take v row) ≡ v = ap length e ∙ n in
       let f : from (at (pos 0) row) 0 v ≡ c = ap (from (at (pos 0) row) 0) (sym l) ∙ stands-from (at (pos 0) row) (take v row) 0 (run-part row (pos 0) 0 v (omega arith) .each) ∙ e in
-      ap (lines (settingAt s row)) (sym (zero-add v)) ∙ sym (listed 0 v) ∙ ap (settings (from (variableAt s) 0 v)) f
+      ap (texts (settingAt s row)) (sym (zero-add v)) ∙ sym (listed 0 v) ∙ ap (settings (from (variableAt s) 0 v)) f

@@ -16,10 +16,6 @@ use Rattle.wording.specs.Script.{script}
 use Rattle.answers.specs.declared.Request.{Request}
 use Rattle.answers.specs.declared.Request.the-variants.{Read, Script, Check, Tally}
 
--- room that is enough for every answer
-abbrev pub enoughRoom : ℕ
-enoughRoom = 4096
-
 -- n in decimal, in at most k digits
 unfoldable pub decimalIn : ℕ → ℕ → List ℕ
 decimalIn zero n = []

@@ -9,7 +9,7 @@ use Rattle.lists.specs.Ascii.{ascii}
 use Rattle.numbers.specs.Ranges.{Narrow}
 use Rattle.layout.specs.Parts.{variableCount, variableAt}
 use Rattle.reading.specs.Cascade.{refusalOf}
-use Rattle.writer.specs.Texts.{lines}
+use Rattle.room.specs.Room.{texts}
 use Rattle.answers.specs.Answers.{setting}
 
 -- the sheet is accepted, and the row's values of its variables have 16 bits
@@ -23,7 +23,7 @@ settingAt s row i = setting (variableAt s i .name) (getD row i (pos 0))
 
 -- those of the first n variables
 unfoldable pub settingsAt : List ℕ → List ℤ → ℕ → List ℕ
-settingsAt s row n = lines (settingAt s row) n
+settingsAt s row n = texts (settingAt s row) n
 
 -- the line of a check that fails with the row's values
 unfoldable pub failsLine : List ℕ → List ℤ → List ℕ

@@ -1,11 +1,8 @@
 -- The lines of variables from their pieces, one more line in the room, and how long they are. Assumes nothing.
-use Prim.Native.Nat.{ℕ, zero, suc, _+_, _-_, _*_, _≤_, _<_}
-use mathlib.Core.Path.{_≡_, refl, sym, ap, _∙_}
+use Prim.Native.Nat.{ℕ, zero, suc, _+_, _-_, _*_, _≤_}
+use mathlib.Core.Path.{_≡_, refl, sym, _∙_}
 use mathlib.Core.List.{List, _++_, append-assoc}
-use mathlib.Core.Logic.{⊎-elim}
 use native.Mathlib.Decide.{decLt}
-use native.Mathlib.Nat.{le-refl, le-of-suc-le-suc, eq-or-lt-of-le}
-use native.Mathlib.Numerals.{add-one}
 use native.Mathlib.Omega.{arith}
 use lib.ListN.{length, length-append}
 use Rattle.lists.specs.Ascii.{ascii}
@@ -16,35 +13,9 @@ use Rattle.layout.specs.Limits.{variablePlace}
 use Rattle.layout.specs.Fold.{ofTree}
 use Rattle.wording.specs.Words.{wordOf}
 use Rattle.wording.specs.Sixteen.{hexText, literal, symbolText}
-use Rattle.room.specs.Room.{Wrote}
-use Rattle.room.proofs.RoomLaws.{wrote-none, wrote-as, chain}
+use Rattle.room.specs.Room.{texts}
 use Rattle.pieces.proofs.PieceLaws.{hex-length, literal-length, symbol-low, symbol-high}
-use Rattle.lines.specs.Lines.{declarationLine, rangeStart, rangeEnd, rangeLine, lines, variablesLength}
-
--- ---- the lines of the first variables
-lines-more : (f : ℕ → List ℕ) (n : ℕ) → lines f n ++ f n ≡ lines f (n + 1)
-unfolding lines
-lines-more f n = rw add-one
-
-lines-fewer : (f : ℕ → List ℕ) (n m : ℕ) → n ≤ m → length (lines f n) ≤ length (lines f m)
-unfolding lines
-lines-fewer f n zero h = let e : n ≡ 0 = omega arith in rw e (le-refl _)
-lines-fewer f n (suc m) h =
-    ⊎-elim (λ e. rw e (le-refl _)) (λ l. let k = lines-fewer f n m (le-of-suc-le-suc l) in rw length-append (omega arith)) (eq-or-lt-of-le h)
-
--- there is room for one more line
-pub lines-step : (f : ℕ → List ℕ) {n m : ℕ} → n < m → length (lines f n) + length (f n) ≤ length (lines f m)
-lines-step f {n} {m} h =
-    let k = lines-fewer f (n + 1) m (omega arith) in
-    omega (arith, ap length (lines-more f n), length-append (lines f n) (f n))
-
--- a line more
-pub wrote-more : (f : ℕ → List ℕ) {i m : ℕ} {r₀ r₁ r₂ : List ℕ} {at p q : ℕ} → i < m → at + length (lines f m) ≤ length r₀ → Wrote (lines f i) r₀ r₁ at p → Wrote (f i) r₁ r₂ p q → Wrote (lines f (i + 1)) r₀ r₂ at q
-wrote-more f {i} {m} l h a b = wrote-as (chain (omega (arith, lines-step f l)) a b) (lines-more f i)
-
-pub wrote-no-lines : (f : ℕ → List ℕ) (room : List ℕ) (at : ℕ) → Wrote (lines f 0) room room at at
-unfolding lines
-wrote-no-lines f room at = wrote-none room at
+use Rattle.lines.specs.Lines.{declarationLine, rangeStart, rangeEnd, rangeLine, variablesLength}
 
 -- ---- lengths
 pub declaration-length : (i : ℕ) → length (declarationLine i) ≡ 32 + length (symbolText i)
@@ -62,18 +33,18 @@ range-length s i = simp (length-append, literal-length) (omega arith)
 symbol-next : (i : ℕ) → length (symbolText i) + (i - 10) ≡ 2 + (suc i - 10)
 symbol-next i = elim (decLt i 10) [ yes h ↦ omega (arith, symbol-low h) | no h ↦ let g : 10 ≤ i = omega arith in omega (arith, symbol-high g) ]
 
-declarations-length : (n : ℕ) → length (lines declarationLine n) ≡ 34 * n + (n - 10)
-unfolding lines
+declarations-length : (n : ℕ) → length (texts declarationLine n) ≡ 34 * n + (n - 10)
+unfolding texts
 declarations-length zero = refl
 declarations-length (suc n) = rw length-append (omega (arith, declarations-length n, declaration-length n, symbol-next n))
 
-ranges-length : (s : List ℕ) (n : ℕ) → length (lines (rangeLine s) n) ≡ 51 * n + 2 * (n - 10)
-unfolding lines
+ranges-length : (s : List ℕ) (n : ℕ) → length (texts (rangeLine s) n) ≡ 51 * n + 2 * (n - 10)
+unfolding texts
 ranges-length s zero = refl
 ranges-length s (suc n) = rw length-append (omega (arith, ranges-length s n, range-length s n, symbol-next n))
 
 -- both lines of the first variables
-pub variables-length : (s : List ℕ) (n : ℕ) → length (lines declarationLine n) + length (lines (rangeLine s) n) ≡ variablesLength n
+pub variables-length : (s : List ℕ) (n : ℕ) → length (texts declarationLine n) + length (texts (rangeLine s) n) ≡ variablesLength n
 variables-length s n = omega (arith, declarations-length n, ranges-length s n)
 
 -- ---- lines from their pieces

@@ -1,6 +1,6 @@
 -- The lines of a script that are about variables, one by one, and how many bytes they are.
-use Prim.Native.Nat.{ℕ, zero, suc, _+_, _-_, _*_}
-use mathlib.Core.List.{List, [], _++_}
+use Prim.Native.Nat.{ℕ, _+_, _-_, _*_}
+use mathlib.Core.List.{List, _++_}
 use Rattle.lists.specs.Ascii.{ascii}
 use Rattle.layout.specs.Parts.{variableAt}
 use Rattle.wording.specs.Sixteen.{hexText, literal, symbolText, widthText}
@@ -19,11 +19,6 @@ rangeStart low i = ascii "(assert (and (bvsle " ++ hexText low ++ ascii " " ++ s
 
 unfoldable pub rangeEnd : ℕ → ℕ → List ℕ
 rangeEnd i high = ascii ") (bvsle " ++ symbolText i ++ ascii " " ++ hexText high ++ ascii ")))\n"
-
--- the lines of the first n variables
-unfoldable pub lines : (ℕ → List ℕ) → ℕ → List ℕ
-lines f zero = []
-lines f (suc n) = lines f n ++ f n
 
 -- how many bytes these are, both lines together: 85 for a variable, 3 more from variable 10 on
 abbrev pub variablesLength : ℕ → ℕ

@@ -4,8 +4,8 @@ ghost use Prim.Native.Nat.{_+_, _≤_, _<_};
 ghost use lib.ListN.{length};
 ghost use Rattle.layout.specs.Limits.{blockBytes, mostVariables};
 ghost use Rattle.wording.specs.Sixteen.{symbolText};
-ghost use Rattle.room.specs.Room.{Wrote};
-ghost use Rattle.lines.specs.Lines.{declarationLine, rangeStart, rangeEnd, rangeLine, lines, variablesLength};
+ghost use Rattle.room.specs.Room.{Wrote, texts};
+ghost use Rattle.lines.specs.Lines.{declarationLine, rangeStart, rangeEnd, rangeLine, variablesLength};
 use numbers::VariableNumber;
 
 // A variable's declaration line.
@@ -20,8 +20,8 @@ fn declaration(room: &mut [u8], at: usize, n: VariableNumber) -> usize
 
 // The declaration lines of the first variables.
 pub fn declarations(room: &mut [u8], at: usize, count: usize) -> usize
-    requires { ⌜ (count ≤ mostVariables) × (at + length (lines declarationLine count) ≤ length (now room)) ⌝ }
-    ensures { λ r. ⌜ Wrote (lines declarationLine count) (now (room .entry)) (now (room .exit)) at r ⌝ }
+    requires { ⌜ (count ≤ mostVariables) × (at + length (texts declarationLine count) ≤ length (now room)) ⌝ }
+    ensures { λ r. ⌜ Wrote (texts declarationLine count) (now (room .entry)) (now (room .exit)) at r ⌝ }
 {
     let mut next = at;
     let mut i: usize = 0;
@@ -69,8 +69,8 @@ fn range_line(sheet: &[u8], room: &mut [u8], at: usize, n: VariableNumber) -> us
 
 // The range lines of the first variables.
 pub fn range_lines(sheet: &[u8], room: &mut [u8], at: usize, count: usize) -> usize
-    requires { ⌜ (blockBytes ≤ length (now sheet)) × (count ≤ mostVariables) × (at + length (lines (rangeLine (now sheet)) count) ≤ length (now room)) ⌝ }
-    ensures { λ r. ⌜ Wrote (lines (rangeLine (now (sheet .entry))) count) (now (room .entry)) (now (room .exit)) at r ⌝ }
+    requires { ⌜ (blockBytes ≤ length (now sheet)) × (count ≤ mostVariables) × (at + length (texts (rangeLine (now sheet)) count) ≤ length (now room)) ⌝ }
+    ensures { λ r. ⌜ Wrote (texts (rangeLine (now (sheet .entry))) count) (now (room .entry)) (now (room .exit)) at r ⌝ }
 {
     let mut next = at;
     let mut i: usize = 0;

@@ -2,7 +2,6 @@
 use Prim.Native.Nat.{ℕ, zero, suc, _+_, _-_, _*_, _/_, _%_, _≤_, _<_}
 use mathlib.Core.Path.{_≡_, refl, sym, ap, _∙_}
 use mathlib.Core.Bool.{Bool, true, false}
-use mathlib.Core.Logic.{_↔_}
 use mathlib.Core.List.{List, [], _∷_, _++_, map, append-assoc, append-nil}
 use mathlib.Core.Option.{none, some}
 use native.Mathlib.Omega.{arith}
@@ -37,15 +36,13 @@ use Rattle.smtlib.specs.Terms.{Environment, numberOf, value}
 use Rattle.smtlib.specs.Commands.{Declaration, declareFun, logics, commandOf}
 use Rattle.smtlib.specs.Settings.{environment, zeros}
 use Rattle.smtlib.specs.Scripts.{solverName, isDeclared, formula, gather, scriptIn}
-use Rattle.smtlib.specs.Satisfaction.{andThen, scriptOf, Meets, Satisfies}
 use Rattle.smtlib.proofs.NameLaws.{same-is, same-self, stands-here, stands-later}
 use Rattle.smtlib.proofs.TermLaws.{call1, call2, call3, value-symbol, value-hexadecimal, value-constant, value-truths1, value-vectors1, value-left, value-right, value-relation, value-vectors2, value-order, value-choice}
 use Rattle.smtlib.proofs.CommandLaws.{logic-read, declare-read, assert-read, check-read, exit-read, vector-read, begins, declares-next, asserts-next, asks-next, exits, declared-append, fresh-name}
-use Rattle.smtlib.proofs.SatisfactionLaws.{satisfies-read}
 use Rattle.wording.specs.Words.{wordOf}
 use Rattle.wording.specs.Sixteen.{symbolText}
-use Rattle.wording.specs.Script.{claims, script}
-use Rattle.wording.proofs.Sexps.{sexpStep, sexp, declareSexp, declareChain, assertChain, chainOf, declares, asked, hexDigits, constant16, width16, asked16}
+use Rattle.wording.specs.Script.{claims}
+use Rattle.wording.proofs.Sexps.{sexpStep, sexp, declareSexp, declareChain, assertChain, chainOf, declares, asked, hexDigits, constant16, width16}
 
 -- ---- the claims are as fine as the rule
 abbrev pub AllFine : ℕ → List (Tree Truth) → Type 0

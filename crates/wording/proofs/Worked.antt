@@ -19,12 +19,12 @@ use Rattle.layout.specs.WellFormed.{Fine}
 use Rattle.layout.proofs.Agree.{Alike}
 use Rattle.layout.proofs.Example.{ruleA, wellA}
 use Rattle.smtlib.specs.Tokens.{symbol, hexadecimal}
-use Rattle.smtlib.specs.Sexps.{Sexp, atom, sexpsOf}
+use Rattle.smtlib.specs.Sexps.{Sexp, atom}
 use Rattle.smtlib.specs.Values.{bool, bitVec, bits}
 use Rattle.smtlib.specs.Settings.{environment}
 use Rattle.smtlib.specs.Scripts.{Script}
 use Rattle.smtlib.specs.Satisfaction.{scriptOf, Satisfies}
-use Rattle.smtlib.proofs.Printing.{print, lines, Printable, Listing}
+use Rattle.smtlib.proofs.Printing.{print, Printable}
 use Rattle.smtlib.proofs.TermLaws.{call1, call2}
 use Rattle.smtlib.proofs.SatisfactionLaws.{meets-test}
 use Rattle.smtlib.proofs.Running.{scriptRead}
@@ -32,7 +32,7 @@ use Rattle.wording.specs.Words.{wordOf}
 use Rattle.wording.specs.Text.{text}
 use Rattle.wording.specs.Sixteen.{hexDigit, hexText, literal, symbolText}
 use Rattle.wording.specs.Script.{joined, script}
-use Rattle.wording.proofs.Sexps.{sexp, chainOf, constant16, width16, asked16}
+use Rattle.wording.proofs.Sexps.{sexp, constant16, width16, asked16}
 use Rattle.wording.proofs.Spelt.{text16-printed, printable16}
 use Rattle.wording.proofs.Read.{Has, symbol-stands, setting-sorted, texts16}
 use Rattle.wording.proofs.Forms.{script-read, script-satisfied}

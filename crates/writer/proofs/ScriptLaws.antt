@@ -23,7 +23,8 @@ use Rattle.wording.specs.Words.{wordOf}
 use Rattle.wording.specs.Text.{textStep, text}
 use Rattle.wording.specs.Sixteen.{literal, symbolText, widthText}
 use Rattle.wording.specs.Script.{claims, declarations, assertion, joined, script}
-use Rattle.lines.specs.Lines.{declarationLine, rangeLine, lines, variablesLength}
+use Rattle.room.specs.Room.{texts}
+use Rattle.lines.specs.Lines.{declarationLine, rangeLine, variablesLength}
 use Rattle.lines.proofs.LineLaws.{variables-length}
 use Rattle.terms.specs.Texts.{Ready, textAt}
 use Rattle.terms.proofs.TextLaws.{text-short}
@@ -41,13 +42,13 @@ unfolding joined
 joined-append [] b = refl
 joined-append (l ∷ ls) b = ap (λ (x : List ℕ). l ++ ascii "\n" ++ x) (joined-append ls b) ∙ sym (append-assoc (l ++ ascii "\n") (joined ls) (joined b))
 
-declared-lines : (i : ℕ) (vs : List Variable) → lines declarationLine i ++ joined (declarations literal symbolText widthText i vs) ≡ lines declarationLine (i + length vs)
-unfolding lines joined declarationLine
-declared-lines i [] = append-nil _ ∙ ap (lines declarationLine) (sym (add-zero i))
+declared-lines : (i : ℕ) (vs : List Variable) → texts declarationLine i ++ joined (declarations literal symbolText widthText i vs) ≡ texts declarationLine (i + length vs)
+unfolding texts joined declarationLine
+declared-lines i [] = append-nil _ ∙ ap (texts declarationLine) (sym (add-zero i))
 declared-lines i (v ∷ vs) =
-    sym (append-assoc (lines declarationLine i) (declarationLine i) (joined (declarations literal symbolText widthText (suc i) vs)))
+    sym (append-assoc (texts declarationLine i) (declarationLine i) (joined (declarations literal symbolText widthText (suc i) vs)))
     ∙ declared-lines (suc i) vs
-    ∙ ap (lines declarationLine) (suc-add i (length vs) ∙ sym (add-suc i (length vs)))
+    ∙ ap (texts declarationLine) (suc-add i (length vs) ∙ sym (add-suc i (length vs)))
 
 -- the script's lines before they are joined: assertions, and those of a sheet
 abbrev asserted : Tree Truth → List ℕ
@@ -63,14 +64,14 @@ abbrev negated : List ℕ → List ℕ
 negated s = asserted (neg (ruleIn s .goal)) ++ ascii "\n"
 
 module _ (s : List ℕ) (goal : Tree Truth) where
-  ranged-lines : (i k : ℕ) → lines (rangeLine s) i ++ joined (map asserted (claims i (from (variableAt s) i k) goal))
-      ≡ lines (rangeLine s) (i + k) ++ (asserted (neg goal) ++ ascii "\n")
-  unfolding lines joined rangeLine
-  ranged-lines i zero = ap (λ (x : List ℕ). lines (rangeLine s) i ++ x) (append-nil _) ∙ ap (λ (n : ℕ). lines (rangeLine s) n ++ (asserted (neg goal) ++ ascii "\n")) (sym (add-zero i))
+  ranged-lines : (i k : ℕ) → texts (rangeLine s) i ++ joined (map asserted (claims i (from (variableAt s) i k) goal))
+      ≡ texts (rangeLine s) (i + k) ++ (asserted (neg goal) ++ ascii "\n")
+  unfolding texts joined rangeLine
+  ranged-lines i zero = ap (λ (x : List ℕ). texts (rangeLine s) i ++ x) (append-nil _) ∙ ap (λ (n : ℕ). texts (rangeLine s) n ++ (asserted (neg goal) ++ ascii "\n")) (sym (add-zero i))
   ranged-lines i (suc k) =
-      sym (append-assoc (lines (rangeLine s) i) (rangeLine s i) (joined (map asserted (claims (suc i) (from (variableAt s) (suc i) k) goal))))
+      sym (append-assoc (texts (rangeLine s) i) (rangeLine s i) (joined (map asserted (claims (suc i) (from (variableAt s) (suc i) k) goal))))
       ∙ ranged-lines (suc i) k
-      ∙ ap (λ (n : ℕ). lines (rangeLine s) n ++ (asserted (neg goal) ++ ascii "\n")) (suc-add i k ∙ sym (add-suc i k))
+      ∙ ap (λ (n : ℕ). texts (rangeLine s) n ++ (asserted (neg goal) ++ ascii "\n")) (suc-add i k ∙ sym (add-suc i k))
 
 assembled : (x y z : List (List ℕ)) {d e g : List ℕ} (r n f : List ℕ) → joined x ≡ d → joined y ≡ r ++ n → joined z ≡ e → n ++ e ≡ g → f ++ d ++ r ++ g ≡ f ++ joined (x ++ (y ++ z))
 assembled x y z r n f p q u v = rw (joined-append x (y ++ z), joined-append y z, p, q, u, ← v) (simp append-assoc)
@@ -89,31 +90,31 @@ module _ (s : List ℕ) (e : refusalOf s ≡ none) where
       flat-goal (ascii "(assert ") (ascii "(") (ascii "not") (ascii " ") (text literal symbolText (ruleIn s .goal)) (ascii ")") (ascii "\n") (ascii "(check-sat)\n(exit)\n")
       ∙ ap (λ (t : List ℕ). ascii "(assert (not " ++ (t ++ ascii "))\n(check-sat)\n(exit)\n")) goal-text
 
-  declarations-are : joined (declared s) ≡ lines declarationLine (variableCount s)
-  unfolding lines
-  declarations-are = declared-lines 0 (ruleIn s .variables) ∙ ap (lines declarationLine) (zero-add _ ∙ length-from (variableAt s) 0 (variableCount s))
+  declarations-are : joined (declared s) ≡ texts declarationLine (variableCount s)
+  unfolding texts
+  declarations-are = declared-lines 0 (ruleIn s .variables) ∙ ap (texts declarationLine) (zero-add _ ∙ length-from (variableAt s) 0 (variableCount s))
 
   ranges-are : joined (claimed s)
-      ≡ lines (rangeLine s) (variableCount s) ++ negated s
-  unfolding lines
+      ≡ texts (rangeLine s) (variableCount s) ++ negated s
+  unfolding texts
   ranges-are =
       ranged-lines s (ruleIn s .goal) 0 (variableCount s)
-      ∙ ap (λ (n : ℕ). lines (rangeLine s) n ++ negated s) (zero-add (variableCount s))
+      ∙ ap (λ (n : ℕ). texts (rangeLine s) n ++ negated s) (zero-add (variableCount s))
 
   -- the parts in order
-  script-is : ascii "(set-logic QF_UFBV)\n" ++ lines declarationLine (variableCount s) ++ lines (rangeLine s) (variableCount s) ++ goalLines s ≡ script (ruleIn s)
+  script-is : ascii "(set-logic QF_UFBV)\n" ++ texts declarationLine (variableCount s) ++ texts (rangeLine s) (variableCount s) ++ goalLines s ≡ script (ruleIn s)
   unfolding script joined
-  script-is = assembled (declared s) (claimed s) _ (lines (rangeLine s) (variableCount s)) (negated s) (ascii "(set-logic QF_UFBV)\n") declarations-are ranges-are refl goal-is
+  script-is = assembled (declared s) (claimed s) _ (texts (rangeLine s) (variableCount s)) (negated s) (ascii "(set-logic QF_UFBV)\n") declarations-are ranges-are refl goal-is
 
   goal-length : length (goalLines s) ≡ 35 + length (textAt s (nodeCount s - 1))
   unfolding goalLines
   goal-length = simp length-append (omega arith)
 
   module _ {v : ℕ} (ev : v ≡ variableCount s) where
-    pub script-from : ascii "(set-logic QF_UFBV)\n" ++ lines declarationLine v ++ lines (rangeLine s) v ++ goalLines s ≡ script (ruleIn s)
+    pub script-from : ascii "(set-logic QF_UFBV)\n" ++ texts declarationLine v ++ texts (rangeLine s) v ++ goalLines s ≡ script (ruleIn s)
     script-from = rw ev script-is
 
-    pub script-parts : length (script (ruleIn s)) ≡ 20 + length (lines declarationLine v) + length (lines (rangeLine s) v) + 35 + length (textAt s (nodeCount s - 1))
+    pub script-parts : length (script (ruleIn s)) ≡ 20 + length (texts declarationLine v) + length (texts (rangeLine s) v) + 35 + length (textAt s (nodeCount s - 1))
     script-parts = ap length (sym script-from) ∙ simp length-append (omega (arith, goal-length))
 
   pub script-length : length (script (ruleIn s)) ≡ variablesLength (variableCount s) + length (textAt s (nodeCount s - 1)) + 55

@@ -3,7 +3,7 @@ use native.Mathlib.Omega.{arith}
 use borrow.Author.Needs.{needs}
 use Rattle.room.proofs.RoomLaws.{wrote-as, chain3}
 use Rattle.answers.proofs.SettingLaws.{fails-from}
-use Rattle.writer.proofs.LineLaws.{first-block}
+use Rattle.writer.proofs.ScriptLaws.{first-block}
 use Rattle.answers.proofs.fails_line.Statement.{statement}
 use Rattle.answers.proofs.fails_line.Tie as tie
 

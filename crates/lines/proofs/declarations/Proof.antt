@@ -3,27 +3,28 @@ use Prim.Native.Nat.{_-_, _≤_}
 use mathlib.Core.Path.{_≡_, ap}
 use native.Mathlib.Omega.{arith}
 use lib.ListN.{length}
-use Rattle.room.specs.Room.{Wrote}
-use Rattle.lines.specs.Lines.{declarationLine, lines}
+use Rattle.room.specs.Room.{Wrote, texts}
+use Rattle.room.proofs.TextLaws.{texts-step, wrote-more, wrote-no-texts}
+use Rattle.lines.specs.Lines.{declarationLine}
 use Rattle.room.proofs.RoomLaws.{wrote-as}
-use Rattle.lines.proofs.LineLaws.{lines-step, wrote-more, wrote-no-lines, declaration-length}
+use Rattle.lines.proofs.LineLaws.{declaration-length}
 use Rattle.lines.proofs.declarations.Statement.{statement}
 use Rattle.lines.proofs.declarations.Tie as tie
 
 abbrev Inv-loop : tie.InvT-loop
-Inv-loop room₀ at count next₀ i₀ room next i = (i ≤ count) × (length room ≡ length room₀) × Wrote (lines declarationLine i) room₀ room at next
+Inv-loop room₀ at count next₀ i₀ room next i = (i ≤ count) × (length room ≡ length room₀) × Wrote (texts declarationLine i) room₀ room at next
 
 abbrev μ-loop : tie.MeasureT-loop
 μ-loop room₀ at count next₀ i₀ room next i = count - i
 
 loop-holds : tie.Need-loop-holds Inv-loop μ-loop
-loop-holds c = (omega arith, omega arith, wrote-no-lines _ _ _)
+loop-holds c = (omega arith, omega arith, wrote-no-texts _ _ _)
 
 cast-t9 : tie.Need-cast-t9 Inv-loop μ-loop
 cast-t9 c = omega arith
 
 declaration-requires : tie.Need-declaration-requires Inv-loop μ-loop
-declaration-requires c κs = (omega arith, omega (arith, lines-step declarationLine {n = c .before .before .loop .i} {m = c .before .before .before .before .args .count} (omega arith), declaration-length (c .before .before .loop .i)))
+declaration-requires c κs = (omega arith, omega (arith, texts-step declarationLine {n = c .before .before .loop .i} {m = c .before .before .before .before .args .count} (omega arith), declaration-length (c .before .before .loop .i)))
 
 add-i : tie.Need-add-i Inv-loop μ-loop
 add-i c = omega arith
@@ -38,7 +39,7 @@ same-length : tie.Need-same-length Inv-loop μ-loop
 same-length c = omega arith
 
 returns : tie.Need-returns Inv-loop μ-loop
-returns c = let e : c .before .loop .i ≡ c .before .before .before .args .count = omega arith in wrote-as (c .before .loop .inv .2) (ap (lines declarationLine) e)
+returns c = let e : c .before .loop .i ≡ c .before .before .before .args .count = omega arith in wrote-as (c .before .loop .inv .2) (ap (texts declarationLine) e)
 
 pub declarations-spec : {M : Type 1} → statement M
 declarations-spec =

@@ -1,6 +1,6 @@
 -- `meaning` meets its contract, by whether the text is the word. Assumes nothing.
 use mathlib.Core.Path.{_≡_, sym, ap, _∙_}
-use mathlib.Core.Bool.{Bool, true, false}
+use mathlib.Core.Bool.{Bool}
 use borrow.Author.Needs.{needs}
 use Rattle.ragwashin.specs.declared.Word.{Word}
 use Rattle.ragwashin.specs.Words.{meant}

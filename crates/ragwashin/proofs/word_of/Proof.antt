@@ -1,6 +1,6 @@
 -- `word_of` meets its contract: what each word falls back on is what the words behind it mean. Assumes nothing.
 use Prim.Native.Nat.{ℕ}
-use mathlib.Core.Path.{_≡_, ap, _∙_}
+use mathlib.Core.Path.{_≡_}
 use mathlib.Core.List.{List}
 use borrow.Author.Needs.{needs}
 use Rattle.lists.specs.Ascii.{ascii}
