@@ -11,7 +11,7 @@ use lib.Dec.{ltb}
 use lib.ListN.{length, take, drop, length-take, length-drop}
 use Rattle.lists.proofs.TestLaws.{both}
 use Rattle.numbers.specs.declared.Refusal.{Refusal}
-use Rattle.layout.specs.Limits.{blockBytes, contentBytes, variablePlace}
+use Rattle.layout.specs.Limits.{blockBytes, contentBytes, mostNameBytes, nameStart, mostVariables, mostNodes, variablePlace}
 use Rattle.layout.specs.Parts.{variableCount, nameSize}
 use Rattle.refusals.specs.declared.Reading.{Reading}
 use Rattle.refusals.specs.declared.Reading.the-variants.{Accepted, Refused}
@@ -32,7 +32,7 @@ module _ (s : List ℕ) {a : Reading} (e : saidOf a ≡ refusalOf s) where
   pub refused-code : {r : Refusal} → a ≡ Refused r → refusalCode (some r) ≡ readCode s
   refused-code d = ap refusalCode (sym (ap saidOf d)) ∙ ap refusalCode e
 
-  pub place-small : {r : Refusal} → a ≡ Refused r → r .place < 248
+  pub place-small : {r : Refusal} → a ≡ Refused r → r .place < mostNodes
   place-small d = refusal-small s (sym e ∙ ap saidOf d) .low-place
 
 -- number and place are told from the code, and so is that the sheet is accepted
@@ -60,7 +60,7 @@ module _ (s : List ℕ) where
       go (some r) q d = absurd (false≢true d)
 
   -- a name that is given has 1 to 16 bytes inside the sheet
-  pub given-size : (i : ℕ) → nameGiven s i ≡ true → (1 ≤ nameSize s (variablePlace i)) × (nameSize s (variablePlace i) ≤ 16) × (variablePlace i + 6 + nameSize s (variablePlace i) ≤ length s) × (i < 16)
+  pub given-size : (i : ℕ) → nameGiven s i ≡ true → (1 ≤ nameSize s (variablePlace i)) × (nameSize s (variablePlace i) ≤ mostNameBytes) × (variablePlace i + nameStart + nameSize s (variablePlace i) ≤ length s) × (i < mostVariables)
   given-size i g =
       let p = given-parts i g in
       let k = accepted-kept s (p .0) i (p .1) .0 in
@@ -76,28 +76,28 @@ module _ (s : List ℕ) where
   part-size true a n h = rw (length-take, length-drop) (let l = h refl in omega arith)
   part-size false a n h = refl
 
-  name-length : (i : ℕ) → length (take (cond (nameGiven s i) (nameSize s (variablePlace i)) 0) (drop (cond (nameGiven s i) (variablePlace i + 6) 0) s)) ≡ cond (nameGiven s i) (nameSize s (variablePlace i)) 0
-  name-length i = part-size (nameGiven s i) (variablePlace i + 6) (nameSize s (variablePlace i)) (λ g. given-size i g .2)
+  name-length : (i : ℕ) → length (take (cond (nameGiven s i) (nameSize s (variablePlace i)) 0) (drop (cond (nameGiven s i) (variablePlace i + nameStart) 0) s)) ≡ cond (nameGiven s i) (nameSize s (variablePlace i)) 0
+  name-length i = part-size (nameGiven s i) (variablePlace i + nameStart) (nameSize s (variablePlace i)) (λ g. given-size i g .2)
 
   module _ (i : ℕ) {size : ℕ} (e : size ≡ cond (nameGiven s i) (nameSize s (variablePlace i)) 0) where
     pub no-name : size ≡ 0 → 0 ≡ nameCode s i
     no-name z = go (nameGiven s i) refl e
       where
-        go : (b : Bool) → nameGiven s i ≡ b → size ≡ cond b (nameSize s (variablePlace i)) 0 → 0 ≡ cond b ((variablePlace i + 6) * 65536 + nameSize s (variablePlace i)) 0
+        go : (b : Bool) → nameGiven s i ≡ b → size ≡ cond b (nameSize s (variablePlace i)) 0 → 0 ≡ cond b ((variablePlace i + nameStart) * 65536 + nameSize s (variablePlace i)) 0
         go true q d = absurd (let l = given-size i q .0 in omega arith)
         go false q d = refl
 
     pub some-name : (size ≡ 0 → ⊥) → (14 + 24 * i) * 65536 + size ≡ nameCode s i
     some-name z = go (nameGiven s i) refl e
       where
-        go : (b : Bool) → nameGiven s i ≡ b → size ≡ cond b (nameSize s (variablePlace i)) 0 → (14 + 24 * i) * 65536 + size ≡ cond b ((variablePlace i + 6) * 65536 + nameSize s (variablePlace i)) 0
+        go : (b : Bool) → nameGiven s i ≡ b → size ≡ cond b (nameSize s (variablePlace i)) 0 → (14 + 24 * i) * 65536 + size ≡ cond b ((variablePlace i + nameStart) * 65536 + nameSize s (variablePlace i)) 0
         go true q d = omega arith
         go false q d = absurd (z d)
 
-    pub size-small : size ≤ 16
+    pub size-small : size ≤ mostNameBytes
     size-small = go (nameGiven s i) refl e
       where
-        go : (b : Bool) → nameGiven s i ≡ b → size ≡ cond b (nameSize s (variablePlace i)) 0 → size ≤ 16
+        go : (b : Bool) → nameGiven s i ≡ b → size ≡ cond b (nameSize s (variablePlace i)) 0 → size ≤ mostNameBytes
         go true q d = let l = given-size i q .1 in omega arith
         go false q d = omega arith
 
@@ -109,8 +109,8 @@ module _ {sheet part : RefT (List ℕ)} (i : ℕ) (p : NamePart sheet i part) wh
   pub name-tells : (length (part .now) ≡ nameCode (sheet .now) i % 65536) × (part .ptr .1 ≡ sheet .ptr .1 + nameCode (sheet .now) i / 65536)
   name-tells = go (nameGiven (sheet .now) i) refl name-part-size (p .place)
     where
-      go : (b : Bool) → nameGiven (sheet .now) i ≡ b → length (part .now) ≡ cond b (nameSize (sheet .now) (variablePlace i)) 0 → part .ptr .1 ≡ sheet .ptr .1 + cond b (variablePlace i + 6) 0
-          → (length (part .now) ≡ cond b ((variablePlace i + 6) * 65536 + nameSize (sheet .now) (variablePlace i)) 0 % 65536) × (part .ptr .1 ≡ sheet .ptr .1 + cond b ((variablePlace i + 6) * 65536 + nameSize (sheet .now) (variablePlace i)) 0 / 65536)
+      go : (b : Bool) → nameGiven (sheet .now) i ≡ b → length (part .now) ≡ cond b (nameSize (sheet .now) (variablePlace i)) 0 → part .ptr .1 ≡ sheet .ptr .1 + cond b (variablePlace i + nameStart) 0
+          → (length (part .now) ≡ cond b ((variablePlace i + nameStart) * 65536 + nameSize (sheet .now) (variablePlace i)) 0 % 65536) × (part .ptr .1 ≡ sheet .ptr .1 + cond b ((variablePlace i + nameStart) * 65536 + nameSize (sheet .now) (variablePlace i)) 0 / 65536)
       go true q a d = let l = given-size (sheet .now) i q .1 in (omega arith, omega arith)
       go false q a d = (a, d)
 

@@ -8,7 +8,7 @@ use lib.IntN.{ℤ}
 use lib.ListN.{length}
 use Rattle.numbers.specs.declared.Refusal.{Refusal}
 use Rattle.meaning.specs.Cases.{firstFailure, held, failed}
-use Rattle.layout.specs.Limits.{contentBytes, variablePlace}
+use Rattle.layout.specs.Limits.{contentBytes, nameStart, variablePlace}
 use Rattle.layout.specs.Parts.{nameSize, ruleIn}
 use Rattle.blocks.specs.Block.{blockGiven}
 use Rattle.reading.specs.Cascade.{refusalOf}
@@ -27,7 +27,7 @@ readCode s = refusalCode (refusalOf s)
 
 -- the name's offset in the sheet times 65,536 plus its length; 0 where the part is empty
 abbrev pub nameCode : List ℕ → ℕ → ℕ
-nameCode s i = cond (nameGiven s i) ((variablePlace i + 6) * 65536 + nameSize s (variablePlace i)) 0
+nameCode s i = cond (nameGiven s i) ((variablePlace i + nameStart) * 65536 + nameSize s (variablePlace i)) 0
 
 -- 510, or 0 where the part is empty; the part starts at 512 times k
 abbrev pub blockCode : List ℕ → ℕ → ℕ

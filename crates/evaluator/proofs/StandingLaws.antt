@@ -4,13 +4,14 @@ use mathlib.Core.Path.{_≡_, refl, sym, _∙_}
 use mathlib.Core.Bool.{Bool, true, false}
 use mathlib.Core.List.{List}
 use native.Mathlib.Omega.{arith}
-use lib.IntN.{ℤ, pos}
+use lib.IntN.{ℤ}
 use lib.Signed.{leZ-yes}
 use lib.ListN.{length, take}
 use mir.Syntax.{w32}
 use mir.Val.{toZ, ofZ}
 use mir.Facts.{toZ-ofZ}
 use Rattle.numbers.specs.Ranges.{Narrow}
+use Rattle.numbers.proofs.NarrowLaws.{zero-narrow}
 use Rattle.numbers.proofs.Fit.{narrow-fits}
 use Rattle.meaning.specs.declared.Sort.{Sort}
 use Rattle.meaning.specs.declared.Sort.the-variants.{Truth as truth}
@@ -19,11 +20,12 @@ use Rattle.meaning.specs.Value.{value}
 use Rattle.meaning.specs.Rule.{valueIn}
 use Rattle.meaning.specs.Cases.{holds}
 use Rattle.meaning.proofs.Row.{same-values}
-use Rattle.layout.specs.Limits.{nodePlace}
+use Rattle.layout.specs.Limits.{nodeBytes, nodePlace}
 use Rattle.layout.specs.Goal.{ofSort, treeAt}
 use Rattle.layout.specs.Parts.{nodeCount, variableCount, table, ruleIn}
 use Rattle.layout.proofs.GoalLaws.{operand-as, operand-from}
 use Rattle.header.specs.Header.{Counted}
+use Rattle.header.proofs.HeaderLaws.{node-inside}
 use Rattle.findings.specs.declared.Finding.{Finding}
 use Rattle.findings.specs.declared.Finding.the-variants.{Truth, Integer}
 use Rattle.findings.specs.Findings.{sortOf}
@@ -43,9 +45,6 @@ numberAt s numbers n = numberOf (treeAt (table s) n .0) (value (valueIn numbers)
 abbrev pub word : ℤ → ℤ
 word x = toZ w32 (ofZ w32 x)
 
-pub zero-narrow : Narrow (pos 0)
-zero-narrow = record { low = leZ-yes tt; high = leZ-yes tt }
-
 bit-narrow : (b : Bool) → Narrow (bit b)
 bit-narrow true = record { low = leZ-yes tt; high = leZ-yes tt }
 bit-narrow false = zero-narrow
@@ -54,8 +53,8 @@ module _ {s : List ℕ} {numbers : List ℤ} (ok : Standing s numbers) where
   pub counted : Counted s
   counted = accepted-counted s (ok .accepted)
 
-  pub record-inside : {n : ℕ} → n < nodeCount s → nodePlace n + 16 ≤ length s
-  record-inside l = omega (arith, counted .size)
+  pub record-inside : {n : ℕ} → n < nodeCount s → nodePlace n + nodeBytes ≤ length s
+  record-inside l = node-inside counted l
 
   -- the row gives each variable the same value as its case
   as-case : valueIn numbers ≡ valueIn (take (variableCount s) numbers)

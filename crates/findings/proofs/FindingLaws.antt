@@ -21,11 +21,12 @@ use Rattle.layout.specs.Starts.{shapeAt, operandsOf, sortsOf, Sorted}
 use Rattle.layout.specs.Fold.{Found, foundBy}
 use Rattle.findings.specs.declared.Finding.{Finding}
 use Rattle.findings.specs.declared.Finding.the-variants.{Truth, Integer}
+use Rattle.findings.specs.declared.Operator.{Operator}
 use Rattle.findings.specs.declared.Step.{Step}
 use Rattle.findings.specs.declared.Step.the-variants.{Good, Bad}
 use Rattle.findings.specs.Findings.{sortOf, rangeOf, findingOf, fitting, Fits}
 use Rattle.findings.specs.Steps.{sameSort, sortsRight, foundFrom, kept, stepOf}
-use Rattle.findings.specs.Operands.{needTruth, needInteger, oneTruth, twoTruths, twoIntegers, oneRange, twoRanges, choice}
+use Rattle.findings.specs.Operands.{needTruth, needInteger, resultsOf, oneTruth, twoTruths, twoIntegers, oneRange, twoRanges, choice}
 
 -- ---- the sort that is found is the kind's
 pub found-sort : (δ : ℕ → Range) (k : Kind) (x : Found Finding (row k .shape)) → sortOf (findingOf δ k x) ≡ row k .gives
@@ -245,3 +246,7 @@ one-range op e w = rw (e, w)
 
 pub two-ranges : {f g : Finding} {p q x : Range} (op : Range → Range → Range) → f ≡ Integer p → g ≡ Integer q → x ≡ op p q → kept (Integer x) ≡ twoRanges op f g
 two-ranges op e d w = rw (e, d, w)
+
+-- the range that an arm gives
+pub results-at : {o j : Operator} (p q : Range) {x : Range} → o ≡ j → x ≡ resultsOf j p q → x ≡ resultsOf o p q
+results-at p q e w = rw e w

@@ -1,8 +1,10 @@
 -- The steps of the code, by the sorts of the operands: each is `stepOf` at the kinds that it serves.
 use Rattle.numbers.specs.declared.Range.{Range}
-use Rattle.numbers.specs.Ranges.{unionOf}
+use Rattle.numbers.specs.Ranges.{sumOf, differenceOf, productOf, unionOf}
 use Rattle.findings.specs.declared.Finding.{Finding}
 use Rattle.findings.specs.declared.Finding.the-variants.{Truth, Integer}
+use Rattle.findings.specs.declared.Operator.{Operator}
+use Rattle.findings.specs.declared.Operator.the-variants.{Sum, Difference, Product}
 use Rattle.findings.specs.declared.Step.{Step}
 use Rattle.findings.specs.declared.Step.the-variants.{Good, Bad}
 use Rattle.findings.specs.Steps.{kept}
@@ -15,6 +17,12 @@ needTruth (Integer r) s = Bad 7
 abbrev pub needInteger : Finding → (Range → Step) → Step
 needInteger Truth s = Bad 7
 needInteger (Integer r) s = s r
+
+-- the range of an operator's results
+abbrev pub resultsOf : Operator → Range → Range → Range
+resultsOf Sum = sumOf
+resultsOf Difference = differenceOf
+resultsOf Product = productOf
 
 abbrev pub oneTruth : Finding → Step
 oneTruth f = needTruth f (Good Truth)

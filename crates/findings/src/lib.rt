@@ -3,7 +3,7 @@ ghost use mathlib.Core.Path.{_≡_};
 ghost use Prim.Native.Nat.{_≤_, _<_};
 ghost use lib.ListN.{length};
 ghost use Rattle.numbers.specs.Two.{dec};
-ghost use Rattle.numbers.specs.Ranges.{_⋯_, minusOf, sumOf, differenceOf, productOf};
+ghost use Rattle.numbers.specs.Ranges.{_⋯_, NarrowEnds, minusOf};
 ghost use Rattle.kinds.specs.declared.Kind;
 ghost use Rattle.layout.specs.Limits.{blockBytes, mostVariables};
 ghost use Rattle.meaning.specs.Rule.{domainOf};
@@ -11,7 +11,7 @@ ghost use Rattle.layout.specs.Parts.{variableCount, ruleIn};
 ghost use Rattle.findings.specs.declared.Finding;
 ghost use Rattle.findings.specs.Findings.{Fits};
 ghost use Rattle.findings.specs.Steps.{kept, stepOf};
-ghost use Rattle.findings.specs.Operands.{oneTruth, twoTruths, twoIntegers, oneRange, twoRanges, choice};
+ghost use Rattle.findings.specs.Operands.{resultsOf, oneTruth, twoTruths, twoIntegers, oneRange, twoRanges, choice};
 use kinds::Kind;
 use kinds::Record;
 use numbers::Range;
@@ -27,6 +27,13 @@ pub enum Finding {
 pub enum Step {
     Good(Finding),
     Bad(u16),
+}
+
+// The operators that make an integer of two.
+enum Operator {
+    Sum,
+    Difference,
+    Product,
 }
 
 // An integer whose range has 16 bits at both ends.
@@ -82,22 +89,22 @@ fn minus(f: Finding) -> Step
     ranged(numbers::minus(p))
 }
 
-fn sum(f: Finding, g: Finding) -> Step
-    requires { ⌜ Fits f × Fits g ⌝ }
-    ensures { λ q. ⌜ q ≡ twoRanges sumOf f g ⌝ }
+// The range of an operator's results.
+fn results(o: Operator, p: Range, q: Range) -> Range
+    requires { ⌜ NarrowEnds p × NarrowEnds q ⌝ }
+    ensures { λ r. ⌜ r ≡ resultsOf o p q ⌝ }
 {
-    let Finding::Integer(p) = f else {
-        return Step::Bad(7);
-    };
-    let Finding::Integer(q) = g else {
-        return Step::Bad(7);
-    };
-    ranged(numbers::sum(p, q))
+    match o {
+        Operator::Sum => numbers::sum(p, q),
+        Operator::Difference => numbers::difference(p, q),
+        Operator::Product => numbers::product(p, q),
+    }
 }
 
-fn difference(f: Finding, g: Finding) -> Step
+// An operator over two integers.
+fn two_ranges(o: Operator, f: Finding, g: Finding) -> Step
     requires { ⌜ Fits f × Fits g ⌝ }
-    ensures { λ q. ⌜ q ≡ twoRanges differenceOf f g ⌝ }
+    ensures { λ q. ⌜ q ≡ twoRanges (resultsOf o) f g ⌝ }
 {
     let Finding::Integer(p) = f else {
         return Step::Bad(7);
@@ -105,20 +112,7 @@ fn difference(f: Finding, g: Finding) -> Step
     let Finding::Integer(q) = g else {
         return Step::Bad(7);
     };
-    ranged(numbers::difference(p, q))
-}
-
-fn product(f: Finding, g: Finding) -> Step
-    requires { ⌜ Fits f × Fits g ⌝ }
-    ensures { λ q. ⌜ q ≡ twoRanges productOf f g ⌝ }
-{
-    let Finding::Integer(p) = f else {
-        return Step::Bad(7);
-    };
-    let Finding::Integer(q) = g else {
-        return Step::Bad(7);
-    };
-    ranged(numbers::product(p, q))
+    ranged(results(o, p, q))
 }
 
 // If f then g else h.
@@ -167,9 +161,9 @@ pub fn found(sheet: &[u8], r: Record, f: Finding, g: Finding, h: Finding) -> Ste
         Kind::Constant => ranged(constant(value)),
         Kind::Variable => ranged(records::domain(sheet, VariableNumber(a))),
         Kind::Minus => minus(f),
-        Kind::Sum => sum(f, g),
-        Kind::Difference => difference(f, g),
-        Kind::Product => product(f, g),
+        Kind::Sum => two_ranges(Operator::Sum, f, g),
+        Kind::Difference => two_ranges(Operator::Difference, f, g),
+        Kind::Product => two_ranges(Operator::Product, f, g),
         Kind::If => either(f, g, h),
     }
 }

@@ -1,4 +1,4 @@
--- Laws of refusals 3 and 4: what the tests say, and what the answer says. Assumes nothing.
+-- Laws of refusals 3 and 4: what the tests say, what the answer says, and what then lies inside the sheet. Assumes nothing.
 use Prim.Native.Nat.{ℕ, zero, suc, _+_, _-_, _*_, _≤_, _<_}
 use mathlib.Core.Path.{_≡_, refl, sym, ap, _∙_}
 use mathlib.Core.Logic.{_⊎_, inl, inr}
@@ -15,7 +15,7 @@ use lib.ListN.{length}
 use Rattle.lists.specs.Places.{allBelow}
 use Rattle.lists.proofs.TestLaws.{both, and, all-true, all-of}
 use Rattle.numbers.specs.declared.Refusal.{Refusal}
-use Rattle.layout.specs.Limits.{blockBytes, contentBytes, mostVariables, mostNodes, blocksFor, variablePlace}
+use Rattle.layout.specs.Limits.{blockBytes, contentBytes, mostVariables, nodeBytes, mostNodes, blocksFor, variablePlace, nodePlace}
 use Rattle.layout.specs.Parts.{edition, nodeCount, variableCount, usedInNodeBlock, Zeros}
 use Rattle.header.specs.Header.{zeros, countsRight, usedIn, tailClear, outsideClear, header, Counted}
 use Rattle.lists.proofs.BelowLaws.{all-stop}
@@ -177,3 +177,16 @@ module _ (s : List ℕ) where
       go : Dec (edition s ≡ 1) → Reason r
       go (no n) = inl (cc (edition-refuses n), n)
       go (yes h) = inr (cc (rest-refuses h wrong), h, wrong)
+
+-- ---- what lies inside, where the counts and the length are right
+module _ {s : List ℕ} (c : Counted s) where
+  pub block-inside : blockBytes ≤ length s
+  block-inside = omega (arith, c .size)
+
+  -- some node takes a second block
+  pub blocks-inside : 2 * blockBytes ≤ length s
+  blocks-inside = omega (arith, c .size, c .some-node)
+
+  -- node n's record
+  pub node-inside : {n : ℕ} → n < nodeCount s → nodePlace n + nodeBytes ≤ length s
+  node-inside l = omega (arith, c .size)

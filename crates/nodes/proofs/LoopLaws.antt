@@ -18,13 +18,14 @@ use Rattle.kinds.specs.declared.Kind.the-variants.{Variable}
 use Rattle.kinds.specs.declared.Record.{Record}
 use Rattle.kinds.specs.declared.Shape.{Shape}
 use Rattle.kinds.specs.declared.Shape.the-variants.{Wrong, Bare, Valued, Named, One, Two, Three}
-use Rattle.layout.specs.Limits.{blockBytes, mostVariables, mostNodes, nodePlace}
+use Rattle.layout.specs.Limits.{blockBytes, mostVariables, nodeBytes, mostNodes, nodePlace}
 use Rattle.layout.specs.Starts.{shapeAt, sortAt, operandsOf, sortsOf, startBy, startStep, startAt}
 use Rattle.layout.specs.Parts.{nodeCount, variableCount, table}
 use Rattle.layout.specs.Fold.{nodeStep, ofNode}
 use Rattle.layout.proofs.StartLaws.{Before}
 use Rattle.refusals.proofs.SaidLaws.{unless-none, unless-true, unless-false}
 use Rattle.header.specs.Header.{Counted}
+use Rattle.header.proofs.HeaderLaws.{block-inside, node-inside}
 use Rattle.order.specs.Order.{placed, Falling}
 use Rattle.order.proofs.OrderLaws.{Bounded, lower, lower-than, known-low, known-start, known-placed}
 use Rattle.findings.specs.declared.Finding.{Finding}
@@ -99,11 +100,8 @@ module _ {s : List ℕ} {n v : ℕ} {starts : List ℕ} {findings : List Finding
   fi = at Truth findings
 
   -- the record of node i lies inside
-  pub inside : i < n → nodePlace i + 16 ≤ length s
-  inside h =
-      let z = g .counted .size in
-      let e = g .nodes-are in
-      omega arith
+  pub inside : i < n → nodePlace i + nodeBytes ≤ length s
+  inside h = node-inside (g .counted) (rw (g .nodes-are) at h)
 
   pub falling : Falling i starts
   falling j h = known-low (table s) i (g .starts-are) j
@@ -138,9 +136,7 @@ module _ {s : List ℕ} {n v : ℕ} {starts : List ℕ} {findings : List Finding
 
       -- what the finding of node i asks
       pub found-ready : (blockBytes ≤ length s) × (variableCount s ≤ mostVariables) × (r .kind ≡ Variable → r .a < variableCount s) × Fits (fi (r .a)) × Fits (fi (r .b))
-      found-ready =
-          let z = g .counted .size in
-          (omega arith, g .counted .few, λ e. rw (g .variables-are) at (bounded .variable e), all-fit (r .a), all-fit (r .b))
+      found-ready = (block-inside (g .counted), g .counted .few, λ e. rw (g .variables-are) at (bounded .variable e), all-fit (r .a), all-fit (r .b))
 
       before : Before i (operandsOf (shapeAt (table s i)) (table s i))
       before = rw er at (lower (λ j l. falling j l) r v (sym eq ∙ p))

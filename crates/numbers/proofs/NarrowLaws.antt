@@ -1,7 +1,7 @@
 -- The tests of 16 bits and what they decide; what lies between narrow ends is narrow. Assumes nothing.
 use mathlib.Core.Path.{_≡_, refl, sym, _∙_}
 use mathlib.Core.Bool.{Bool, true, false, true≢false, and-eq-true-iff}
-use lib.IntN.{ℤ}
+use lib.IntN.{ℤ, pos}
 use lib.Signed.{_≤ℤ_, leZ}
 use Rattle.numbers.specs.declared.Range.{Range}
 use Rattle.numbers.specs.Ranges.{least16, greatest16, Narrow, NarrowEnds, isNarrow, hasNarrowEnds, In, Narrower, unionOf}
@@ -11,6 +11,9 @@ use Rattle.numbers.proofs.Sound.{of-least, of-greatest}
 use Rattle.numbers.proofs.Monotone.{low-in, high-in, in-wider}
 
 -- ---- of a number
+pub zero-narrow : Narrow (pos 0)
+zero-narrow = record { low = record { le = tt }; high = record { le = tt } }
+
 pub isNarrow-true : {z : ℤ} → Narrow z → isNarrow z ≡ true
 unfolding isNarrow
 isNarrow-true {z} h = and-eq-true-iff (leZ least16 z) (leZ z greatest16) .1 (le-leZ (h .low), le-leZ (h .high))

@@ -17,7 +17,7 @@ use Rattle.refusals.specs.Said.{saidOf}
 use Rattle.blocks.specs.Early.{early}
 use Rattle.blocks.proofs.EarlyLaws.{early-none, right-length}
 use Rattle.header.specs.Header.{header, Counted}
-use Rattle.header.proofs.HeaderLaws.{right-of-none, right-counts}
+use Rattle.header.proofs.HeaderLaws.{block-inside, blocks-inside, right-of-none, right-counts}
 use Rattle.records.specs.Variables.{variables}
 use Rattle.nodes.specs.Nodes.{nodes}
 use Rattle.reading.specs.Cascade.{refusalOf}
@@ -57,11 +57,7 @@ module _ (s : List ℕ) {a : Reading} (ea : saidOf a ≡ early s) where
         counted = right-counts s (right-of-none s (none-of eb pb))
 
         pub records-inside : (2 * blockBytes ≤ length s) × (variableCount s ≤ mostVariables)
-        records-inside =
-            let c = counted in
-            let z = c .size in
-            let y = c .some-node in
-            (omega arith, c .few)
+        records-inside = (blocks-inside counted, counted .few)
 
         module _ {c : Reading} (ec : saidOf c ≡ variables s) where
           pub by-variables : {r : Refusal} → c ≡ Refused r → saidOf c ≡ refusalOf s
@@ -88,10 +84,7 @@ module _ (s : List ℕ) {a : Reading} (e : saidOf a ≡ refusalOf s) where
     listed-name i h = rw (none-of e p, lt-ltb i (variableCount s) h)
 
     pub accepted-long : blockBytes ≤ length s
-    accepted-long =
-        let c = accepted-counted s (none-of e p) in
-        let z = c .size in
-        omega arith
+    accepted-long = block-inside (accepted-counted s (none-of e p))
 
     pub name-inside : {i : ℕ} → i < variableCount s → variablePlace i + nameStart + 255 ≤ length s
     name-inside h =

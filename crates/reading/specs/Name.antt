@@ -7,7 +7,7 @@ use denote.Ref.{RefT}
 use lib.Dec.{ltb}
 use Rattle.lists.specs.Part.{PartAt}
 use Rattle.numbers.specs.declared.Refusal.{Refusal}
-use Rattle.layout.specs.Limits.{variablePlace}
+use Rattle.layout.specs.Limits.{nameStart, variablePlace}
 use Rattle.layout.specs.Parts.{variableCount, nameSize}
 use Rattle.reading.specs.Cascade.{refusalOf}
 
@@ -23,5 +23,5 @@ nameGiven s i = isNone (refusalOf s) && ltb i (variableCount s)
 abbrev pub NamePart : RefT (List ℕ) → ℕ → RefT (List ℕ) → Type 0
 NamePart sheet i part =
     PartAt sheet part
-    (cond (nameGiven (sheet .now) i) (variablePlace i + 6) 0)
+    (cond (nameGiven (sheet .now) i) (variablePlace i + nameStart) 0)
     (cond (nameGiven (sheet .now) i) (nameSize (sheet .now) (variablePlace i)) 0)

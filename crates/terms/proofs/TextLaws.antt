@@ -13,13 +13,14 @@ use Rattle.kinds.specs.declared.Record.{Record}
 use Rattle.kinds.specs.declared.Shape.{Shape}
 use Rattle.kinds.specs.declared.Shape.the-variants.{Wrong, Bare, Valued, Named, One, Two, Three}
 use Rattle.kinds.specs.Kinds.{row}
-use Rattle.layout.specs.Limits.{mostVariables, mostNodes, nodePlace}
+use Rattle.layout.specs.Limits.{mostVariables, nodeBytes, mostNodes, nodePlace}
 use Rattle.layout.specs.Starts.{shapeAt, operandsOf, startBy, startAt, Ordered, Listed, Placed}
 use Rattle.layout.specs.Parts.{variableCount, table}
 use Rattle.layout.specs.Fold.{foundBy}
 use Rattle.layout.proofs.StartLaws.{Before, lower, start-is}
 use Rattle.layout.proofs.FoldLaws.{node-is}
 use Rattle.layout.proofs.PartLaws.{words}
+use Rattle.header.proofs.HeaderLaws.{node-inside}
 use Rattle.reading.proofs.RuleLaws.{accepted-counted, accepted-sound}
 use Rattle.wording.specs.Words.{wordOf}
 use Rattle.wording.specs.Text.{call1, call2, call3, textBy, textStep}
@@ -28,7 +29,7 @@ use Rattle.room.specs.Room.{Wrote}
 use Rattle.room.proofs.RoomLaws.{wrote-as, chain3, chain4, chain5}
 use Rattle.pieces.proofs.WordLaws.{word-short}
 use Rattle.pieces.proofs.PieceLaws.{symbol-short, literal-length}
-use Rattle.terms.specs.Texts.{Ready, textAt, oneText, twoText, threeText}
+use Rattle.terms.specs.Texts.{Ready, textAt}
 
 -- ---- lengths
 pub length-1 : (w a : List ℕ) → length (call1 w a) ≡ 3 + length w + length a
@@ -74,16 +75,14 @@ bound (Two s t) r w n g st l o b all = omega (arith, length-2 w (g (r .a)) (g (r
 bound (Three s t u) r w n g st l o b all =
     omega (arith, length-3 w (g (r .a)) (g (r .b)) (g (r .c)), all (r .a) (b .1 .1 .0), all (r .b) (b .1 .0), all (r .c) (b .0))
 
--- ---- nodes by the number of their operands: the text and its length, and that the operands are nodes of lower numbers
+-- ---- nodes by the number of their operands: the length of the text, and that the operands are nodes of lower numbers
 pub record OneNode (s : List ℕ) (n : ℕ) (r : Record) : Type 0 where
-  pub text : textAt s n ≡ oneText s r
   pub size : length (textAt s n) ≡ 3 + length (wordOf (r .kind)) + length (textAt s (r .a))
   pub short : length (textAt s n) ≤ 8 * mostNodes
   pub first : Ready s (r .a)
   pub low : r .a < n
 
 pub record TwoNode (s : List ℕ) (n : ℕ) (r : Record) : Type 0 where
-  pub text : textAt s n ≡ twoText s r
   pub size : length (textAt s n) ≡ 4 + length (wordOf (r .kind)) + length (textAt s (r .a)) + length (textAt s (r .b))
   pub short : length (textAt s n) ≤ 8 * mostNodes
   pub first : Ready s (r .a)
@@ -92,7 +91,6 @@ pub record TwoNode (s : List ℕ) (n : ℕ) (r : Record) : Type 0 where
   pub low₂ : r .b < n
 
 pub record ThreeNode (s : List ℕ) (n : ℕ) (r : Record) : Type 0 where
-  pub text : textAt s n ≡ threeText s r
   pub size : length (textAt s n) ≡ 5 + length (wordOf (r .kind)) + length (textAt s (r .a)) + length (textAt s (r .b)) + length (textAt s (r .c))
   pub short : length (textAt s n) ≤ 8 * mostNodes
   pub first : Ready s (r .a)
@@ -107,11 +105,8 @@ module _ {s : List ℕ} {n : ℕ} (ok : Ready s n) where
   placed : Placed (table s) (variableCount s) n
   placed = accepted-sound s (ok .accepted) .placed n (ok .below)
 
-  pub inside : nodePlace n + 16 ≤ length s
-  inside =
-      let z = accepted-counted s (ok .accepted) .size in
-      let l = ok .below in
-      omega arith
+  pub inside : nodePlace n + nodeBytes ≤ length s
+  inside = node-inside (accepted-counted s (ok .accepted)) (ok .below)
 
   from-record : textAt s n ≡ byShape (shapeAt (table s n)) (wordOf (table s n .kind)) (table s n) (textAt s)
   unfolding textAt
@@ -161,18 +156,17 @@ module _ {s : List ℕ} {n : ℕ} (ok : Ready s n) {r : Record} (er : r ≡ tabl
   pub one-node : {t : Sort} → h ≡ One t → OneNode s n r
   one-node eg =
       let b = operands-before eg in
-      record { text = node-text eg; size = ap length (node-text eg) ∙ length-1 (wordOf (r .kind)) (textAt s (r .a)); short = text-short ok; first = lower-ready (b .0); low = b .0 }
+      record { size = ap length (node-text eg) ∙ length-1 (wordOf (r .kind)) (textAt s (r .a)); short = text-short ok; first = lower-ready (b .0); low = b .0 }
 
   pub two-node : {t u : Sort} → h ≡ Two t u → TwoNode s n r
   two-node eg =
       let b = operands-before eg in
-      record { text = node-text eg; size = ap length (node-text eg) ∙ length-2 (wordOf (r .kind)) (textAt s (r .a)) (textAt s (r .b)); short = text-short ok; first = lower-ready (b .1 .0); second = lower-ready (b .0); low = b .1 .0; low₂ = b .0 }
+      record { size = ap length (node-text eg) ∙ length-2 (wordOf (r .kind)) (textAt s (r .a)) (textAt s (r .b)); short = text-short ok; first = lower-ready (b .1 .0); second = lower-ready (b .0); low = b .1 .0; low₂ = b .0 }
 
   pub three-node : {t u v : Sort} → h ≡ Three t u v → ThreeNode s n r
   three-node eg =
       let b = operands-before eg in
       record {
-        text = node-text eg;
         size = ap length (node-text eg) ∙ length-3 (wordOf (r .kind)) (textAt s (r .a)) (textAt s (r .b)) (textAt s (r .c));
         short = text-short ok;
         first = lower-ready (b .1 .1 .0);

@@ -17,6 +17,7 @@ use Rattle.layout.specs.Limits.{blockBytes}
 use Rattle.layout.specs.Fold.{ofTree}
 use Rattle.layout.specs.Parts.{nodeCount, variableCount, variableAt, table, ruleIn}
 use Rattle.layout.proofs.FoldLaws.{goal-found}
+use Rattle.header.proofs.HeaderLaws.{block-inside}
 use Rattle.reading.specs.Cascade.{refusalOf}
 use Rattle.reading.proofs.RuleLaws.{accepted-counted, accepted-sound}
 use Rattle.wording.specs.Words.{wordOf}
@@ -126,9 +127,7 @@ module _ (s : List ℕ) (e : refusalOf s ≡ none) where
 
   -- the first block is there
   pub first-block : blockBytes ≤ length s
-  first-block =
-      let z = accepted-counted s e .size in
-      omega arith
+  first-block = block-inside (accepted-counted s e)
 
   pub script-short : length (script (ruleIn s)) ≤ enoughRoom
   script-short = let c = accepted-counted s e in omega (arith, script-length, text-short (goal-ready refl), c .few)

@@ -7,7 +7,8 @@ use borrow.Fn.PlainCycle.{Measures, is, falls, and}
 use Rattle.kinds.specs.declared.Shape.{Shape}
 use Rattle.kinds.proofs.shape_of.Reads as shape-of-reads
 use Rattle.records.proofs.record_at.Reads as record-at-reads
-use Rattle.evaluator.proofs.StandingLaws.{zero-narrow, record-inside}
+use Rattle.numbers.proofs.NarrowLaws.{zero-narrow}
+use Rattle.evaluator.proofs.StandingLaws.{record-inside}
 use Rattle.evaluator.proofs.ValueLaws.{Reached, operands, few, down, operand-narrow, wrong, bare, valued, named, one, two, three}
 use Rattle.evaluator.proofs.apply.Reads as apply-reads
 use Rattle.evaluator.proofs.constant.Reads as constant-reads

@@ -4,9 +4,6 @@ use Rattle.numbers.proofs.Fit.{fit}
 use Rattle.evaluator.proofs.constant.Statement.{statement}
 use Rattle.evaluator.proofs.constant.Tie as tie
 
-signed-requires : tie.Need-signed-requires
-signed-requires c κs = search needs
-
 cast-result : tie.Need-cast-result
 cast-result c = search fit
 
@@ -14,4 +11,4 @@ returns : tie.Need-returns
 returns c = search fit
 
 pub constant-spec : {M : Type 1} → statement M
-constant-spec = tie.close (tie.spec signed-requires cast-result returns)
+constant-spec = tie.close (tie.spec (λ c κs. search needs) cast-result returns)

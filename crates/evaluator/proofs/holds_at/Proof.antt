@@ -1,11 +1,12 @@
 -- `holds_at` meets its contract: the last node is the goal, whose number stands for whether the rule holds. Assumes nothing.
 use native.Mathlib.Omega.{arith}
+use Rattle.header.proofs.HeaderLaws.{block-inside}
 use Rattle.evaluator.proofs.StandingLaws.{counted, goal-holds}
 use Rattle.evaluator.proofs.holds_at.Statement.{statement}
 use Rattle.evaluator.proofs.holds_at.Tie as tie
 
 node-count-requires : tie.Need-node-count-requires
-node-count-requires c κs = omega (arith, counted (c .before .pre) .size)
+node-count-requires c κs = block-inside (counted (c .before .pre))
 
 sub-goal : tie.Need-sub-goal
 sub-goal c = omega (arith, c .node-count .ensures, counted (c .before .before .pre) .some-node)

@@ -60,13 +60,13 @@ returns-14 : tie.Need-returns-14
 returns-14 c = c .minus .ensures ∙ step-at _ _ _ _ _ (c .before .enum-told14 .given .1)
 
 returns-15 : tie.Need-returns-15
-returns-15 c = c .sum .ensures ∙ step-at _ _ _ _ _ (c .before .enum-told15 .given .1)
+returns-15 c = c .two-ranges .ensures ∙ step-at _ _ _ _ _ (c .before .enum-told15 .given .1)
 
 returns-16 : tie.Need-returns-16
-returns-16 c = c .difference .ensures ∙ step-at _ _ _ _ _ (c .before .enum-told16 .given .1)
+returns-16 c = c .two-ranges2 .ensures ∙ step-at _ _ _ _ _ (c .before .enum-told16 .given .1)
 
 returns-17 : tie.Need-returns-17
-returns-17 c = c .product .ensures ∙ step-at _ _ _ _ _ (c .before .enum-told17 .given .1)
+returns-17 c = c .two-ranges3 .ensures ∙ step-at _ _ _ _ _ (c .before .enum-told17 .given .1)
 
 returns-18 : tie.Need-returns-18
 returns-18 c = c .either .ensures ∙ step-at _ _ _ _ _ (c .before .enum-told18 .given .1)

@@ -6,24 +6,6 @@ use Rattle.lines.proofs.LineLaws.{declaration-is}
 use Rattle.lines.proofs.declaration.Statement.{statement}
 use Rattle.lines.proofs.declaration.Tie as tie
 
-slice-aggregate-put : tie.Need-slice-aggregate-put
-slice-aggregate-put c = search needs
-
-put-requires : tie.Need-put-requires
-put-requires c κs = search needs
-
-symbol-requires : tie.Need-symbol-requires
-symbol-requires c κs = search needs
-
-slice-aggregate-put-2 : tie.Need-slice-aggregate-put-2
-slice-aggregate-put-2 c = search needs
-
-put-requires-2 : tie.Need-put-requires-2
-put-requires-2 c κs = search needs
-
-same-length : tie.Need-same-length
-same-length c = search needs
-
 returns : tie.Need-returns
 returns c = wrote-as (chain3 (omega arith) (c .before .before .before .before .before .before .before .before .before .before .before .put .ensures) (c .before .before .before .before .before .before .before .symbol .ensures) (c .before .before .put2 .ensures)) (declaration-is _)
 
@@ -31,10 +13,10 @@ pub declaration-spec : {M : Type 1} → statement M
 declaration-spec =
     tie.close
     (tie.spec
-    slice-aggregate-put
-    put-requires
-    symbol-requires
-    slice-aggregate-put-2
-    put-requires-2
-    same-length
+    (λ c. search needs)
+    (λ c κs. search needs)
+    (λ c κs. search needs)
+    (λ c. search needs)
+    (λ c κs. search needs)
+    (λ c. search needs)
     returns)

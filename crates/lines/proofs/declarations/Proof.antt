@@ -20,23 +20,11 @@ abbrev μ-loop : tie.MeasureT-loop
 loop-holds : tie.Need-loop-holds Inv-loop μ-loop
 loop-holds c = (omega arith, omega arith, wrote-no-texts _ _ _)
 
-cast-t9 : tie.Need-cast-t9 Inv-loop μ-loop
-cast-t9 c = omega arith
-
 declaration-requires : tie.Need-declaration-requires Inv-loop μ-loop
 declaration-requires c κs = (omega arith, omega (arith, texts-step declarationLine {n = c .before .before .loop .i} {m = c .before .before .before .before .args .count} (omega arith), declaration-length (c .before .before .loop .i)))
 
-add-i : tie.Need-add-i Inv-loop μ-loop
-add-i c = omega arith
-
-loop-less : tie.Need-loop-less Inv-loop μ-loop
-loop-less c = omega arith
-
 loop-again : tie.Need-loop-again Inv-loop μ-loop
 loop-again c = (omega arith, omega arith, wrote-more declarationLine {m = c .before .before .before .before .before .before .before .args .count} (omega arith) (omega arith) (c .before .before .before .before .before .loop .inv .2) (c .before .before .declaration .ensures))
-
-same-length : tie.Need-same-length Inv-loop μ-loop
-same-length c = omega arith
 
 returns : tie.Need-returns Inv-loop μ-loop
 returns c = let e : c .before .loop .i ≡ c .before .before .before .args .count = omega arith in wrote-as (c .before .loop .inv .2) (ap (texts declarationLine) e)
@@ -48,10 +36,10 @@ declarations-spec =
     Inv-loop
     μ-loop
     loop-holds
-    cast-t9
+    (λ c. omega arith)
     declaration-requires
-    add-i
-    loop-less
+    (λ c. omega arith)
+    (λ c. omega arith)
     loop-again
-    same-length
+    (λ c. omega arith)
     returns)

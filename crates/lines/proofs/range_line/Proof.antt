@@ -6,26 +6,8 @@ use Rattle.lines.proofs.LineLaws.{start-length, range-from}
 use Rattle.lines.proofs.range_line.Statement.{statement}
 use Rattle.lines.proofs.range_line.Tie as tie
 
-variable-place-requires : tie.Need-variable-place-requires
-variable-place-requires c κs = search needs
-
-u16-at-requires : tie.Need-u16-at-requires
-u16-at-requires c κs = search needs
-
-add-u16-at : tie.Need-add-u16-at
-add-u16-at c = search needs
-
-u16-at-requires-2 : tie.Need-u16-at-requires-2
-u16-at-requires-2 c κs = search needs
-
-range-start-requires : tie.Need-range-start-requires
-range-start-requires c κs = search needs
-
 range-end-requires : tie.Need-range-end-requires
 range-end-requires c κs = omega (arith, start-length (c .before .before .before .before .before .before .u16-at .result) (c .before .before .before .before .before .before .before .before .before .before .args .n .0))
-
-same-length : tie.Need-same-length
-same-length c = search needs
 
 returns : tie.Need-returns
 returns c = wrote-as (chain (omega (arith, start-length (c .before .before .before .before .before .before .before .before .before .u16-at .result) (c .before .before .before .before .before .before .before .before .before .before .before .before .before .args .n .0))) (c .before .before .before .before .before .before .range-start .ensures) (c .before .before .range-end .ensures)) (range-from _ (λ i. omega (arith, c .before .before .before .before .before .before .before .before .before .before .before .before .shared-slice-known .given i)) _ (c .before .before .before .before .before .before .before .before .before .before .variable-place .ensures) (c .before .before .before .before .before .before .before .before .before .u16-at .ensures) (c .before .before .before .before .before .before .before .before .u16-at2 .ensures))
@@ -34,11 +16,11 @@ pub range-line-spec : {M : Type 1} → statement M
 range-line-spec =
     tie.close
     (tie.spec
-    variable-place-requires
-    u16-at-requires
-    add-u16-at
-    u16-at-requires-2
-    range-start-requires
+    (λ c κs. search needs)
+    (λ c κs. search needs)
+    (λ c. search needs)
+    (λ c κs. search needs)
+    (λ c κs. search needs)
     range-end-requires
-    same-length
+    (λ c. search needs)
     returns)

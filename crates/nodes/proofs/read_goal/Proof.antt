@@ -7,12 +7,6 @@ use Rattle.nodes.proofs.read_goal.Tie as tie
 returns : tie.Need-returns
 returns c = rw (ne-eqb _ 0 (c .if1 .taken))
 
-enum-told : tie.Need-enum-told
-enum-told c = search needs
-
-enum-told-2 : tie.Need-enum-told-2
-enum-told-2 c = search needs
-
 returns-2 : tie.Need-returns-2
 returns-2 c = rw (eq-eqb _ 0 (c .before .before .if1 .left), c .enum-told2 .given .1)
 
@@ -20,4 +14,4 @@ returns-3 : tie.Need-returns-3
 returns-3 c = rw (eq-eqb _ 0 (c .before .before .if1 .left), c .enum-told .given .1)
 
 pub read-goal-spec : {M : Type 1} → statement M
-read-goal-spec = tie.close (tie.spec returns enum-told enum-told-2 returns-2 returns-3)
+read-goal-spec = tie.close (tie.spec returns (λ c. search needs) (λ c. search needs) returns-2 returns-3)

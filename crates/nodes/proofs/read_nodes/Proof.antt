@@ -4,6 +4,7 @@ use mathlib.Core.Path.{_∙_}
 use native.Mathlib.Omega.{arith}
 use borrow.Author.Needs.{needs}
 use borrow.Author.Tests.{not-true, not-false}
+use Rattle.header.proofs.HeaderLaws.{block-inside}
 use Rattle.nodes.proofs.LoopLaws.{Going, begin, inside, falling, misplaced, bounded, found-ready, refused, turn, finish}
 use Rattle.nodes.proofs.read_nodes.Statement.{statement}
 use Rattle.nodes.proofs.read_nodes.Tie as tie
@@ -15,10 +16,10 @@ abbrev μ-loop : tie.MeasureT-loop
 μ-loop sheet n v starts₀ findings₀ i₀ starts findings i = n - i
 
 node-count-requires : tie.Need-node-count-requires Inv-loop μ-loop
-node-count-requires c κs = omega (arith, c .before .pre .size)
+node-count-requires c κs = block-inside (c .before .pre)
 
 variable-count-requires : tie.Need-variable-count-requires Inv-loop μ-loop
-variable-count-requires c κs = omega (arith, c .before .before .pre .size)
+variable-count-requires c κs = block-inside (c .before .before .pre)
 
 loop-holds : tie.Need-loop-holds Inv-loop μ-loop
 loop-holds c = begin (c .before .before .before .pre) (c .before .node-count .ensures) (c .variable-count .ensures)
@@ -34,15 +35,6 @@ right-place-requires c κs = (omega (arith, c .before .before .before .loop .inv
 
 returns : tie.Need-returns Inv-loop μ-loop
 returns c = misplaced (c .before .before .before .before .before .loop .inv) (c .before .before .before .before .loop-test .taken) (c .before .before .before .record-at .ensures) (c .before .right-place .ensures) (not-true _ (c .if1 .taken))
-
-cast-a : tie.Need-cast-a Inv-loop μ-loop
-cast-a c = search needs
-
-cast-b : tie.Need-cast-b Inv-loop μ-loop
-cast-b c = search needs
-
-cast-c : tie.Need-cast-c Inv-loop μ-loop
-cast-c c = search needs
 
 mul-found : tie.Need-mul-found Inv-loop μ-loop
 mul-found c = omega (arith, bounded (c .before .before .before .before .before .before .before .before .loop .inv) (c .before .before .before .before .before .before .before .loop-test .taken) (c .before .before .before .before .before .before .record-at .ensures) (c .before .before .before .before .right-place .ensures) (not-false _ (c .before .before .before .if1 .left)) .a)
@@ -65,14 +57,8 @@ array-copy-out-found-3 c = omega (arith, bounded (c .before .before .before .bef
 found-requires : tie.Need-found-requires Inv-loop μ-loop
 found-requires c κs = found-ready (c .before .before .before .before .before .before .before .before .before .before .before .loop .inv) (c .before .before .before .before .before .before .before .before .before .before .loop-test .taken) (c .before .before .before .before .before .before .before .before .before .record-at .ensures) (c .before .before .before .before .before .before .before .right-place .ensures) (not-false _ (c .before .before .before .before .before .before .if1 .left))
 
-enum-known-step : tie.Need-enum-known-step Inv-loop μ-loop
-enum-known-step c = search needs
-
 returns-2 : tie.Need-returns-2 Inv-loop μ-loop
 returns-2 c = refused (c .before .before .before .before .before .before .before .before .before .before .before .before .before .before .before .loop .inv) (c .before .before .before .before .before .before .before .before .before .before .before .before .before .before .loop-test .taken) (c .before .before .before .before .before .before .before .before .before .before .before .before .before .record-at .ensures) (c .before .before .before .before .before .before .before .before .before .before .before .right-place .ensures) (not-false _ (c .before .before .before .before .before .before .before .before .before .before .if1 .left)) (c .before .before .before .found .ensures) (c .before .step .given .1)
-
-enum-known-step-2 : tie.Need-enum-known-step-2 Inv-loop μ-loop
-enum-known-step-2 c = search needs
 
 start-requires : tie.Need-start-requires Inv-loop μ-loop
 start-requires c κs = bounded (c .before .before .before .before .before .before .before .before .before .before .before .before .before .before .before .before .loop .inv) (c .before .before .before .before .before .before .before .before .before .before .before .before .before .before .before .loop-test .taken) (c .before .before .before .before .before .before .before .before .before .before .before .before .before .before .record-at .ensures) (c .before .before .before .before .before .before .before .before .before .before .before .before .right-place .ensures) (not-false _ (c .before .before .before .before .before .before .before .before .before .before .before .if1 .left)) .a
@@ -92,9 +78,6 @@ array-set-from-findings c = omega (arith, c .before .before .before .before .bef
 add-i : tie.Need-add-i Inv-loop μ-loop
 add-i c = omega (arith, c .before .before .before .before .before .before .before .before .before .before .before .before .before .before .before .before .before .loop .inv .counted .most, c .before .before .before .before .before .before .before .before .before .before .before .before .before .before .before .before .before .loop .inv .nodes-are)
 
-loop-less : tie.Need-loop-less Inv-loop μ-loop
-loop-less c = omega arith
-
 loop-again : tie.Need-loop-again Inv-loop μ-loop
 loop-again c = turn (c .before .before .before .before .before .before .before .before .before .before .before .before .before .before .before .before .before .loop .inv) (c .before .before .before .before .before .before .before .before .before .before .before .before .before .before .before .before .loop-test .taken) (c .before .before .before .before .before .before .before .before .before .before .before .before .before .before .before .record-at .ensures) (c .before .before .before .before .before .before .before .before .before .before .before .before .before .right-place .ensures) (not-false _ (c .before .before .before .before .before .before .before .before .before .before .before .before .if1 .left)) (c .before .before .before .before .before .found .ensures) (c .before .before .before .step2 .given .1) (c .start .ensures)
 
@@ -113,9 +96,6 @@ mul-read-goal-2 c = omega (arith, c .before .loop .inv .counted .most, c .before
 array-copy-out-read-goal : tie.Need-array-copy-out-read-goal Inv-loop μ-loop
 array-copy-out-read-goal c = omega (arith, c .before .loop .inv .counted .most, c .before .loop .inv .nodes-are, c .before .loop .inv .starts-size, c .before .loop .inv .findings-size)
 
-read-goal-requires : tie.Need-read-goal-requires Inv-loop μ-loop
-read-goal-requires c κs = search needs
-
 returns-3 : tie.Need-returns-3 Inv-loop μ-loop
 returns-3 c = c .read-goal .ensures ∙ finish (c .before .before .before .loop .inv) (c .before .before .loop-test .left)
 
@@ -132,9 +112,9 @@ read-nodes-spec =
     record-at-requires
     right-place-requires
     returns
-    cast-a
-    cast-b
-    cast-c
+    (λ c. search needs)
+    (λ c. search needs)
+    (λ c. search needs)
     mul-found
     array-copy-out-found
     mul-found-2
@@ -142,21 +122,21 @@ read-nodes-spec =
     mul-found-3
     array-copy-out-found-3
     found-requires
-    enum-known-step
+    (λ c. search needs)
     returns-2
-    enum-known-step-2
+    (λ c. search needs)
     start-requires
     mul-starts
     array-write-starts
     mul-findings
     array-set-from-findings
     add-i
-    loop-less
+    (λ c. omega arith)
     loop-again
     sub-goal
     mul-read-goal
     array-read-read-goal
     mul-read-goal-2
     array-copy-out-read-goal
-    read-goal-requires
+    (λ c κs. search needs)
     returns-3)

@@ -5,12 +5,6 @@ use Rattle.numbers.specs.Ranges.{isNarrow, hasNarrowEnds}
 use Rattle.numbers.proofs.fits16.Statement.{statement}
 use Rattle.numbers.proofs.fits16.Tie as tie
 
-narrow-requires : tie.Need-narrow-requires
-narrow-requires c κs = search needs
-
-narrow-requires-2 : tie.Need-narrow-requires-2
-narrow-requires-2 c κs = search needs
-
 returns : tie.Need-returns
 unfolding hasNarrowEnds
 returns c =
@@ -27,4 +21,4 @@ returns-2 c =
     simp (c .if1 .left, sym e ∙ c .if1 .left)
 
 pub fits16-spec : {M : Type 1} → statement M
-fits16-spec = tie.close (tie.spec narrow-requires narrow-requires-2 returns returns-2)
+fits16-spec = tie.close (tie.spec (λ c κs. search needs) (λ c κs. search needs) returns returns-2)

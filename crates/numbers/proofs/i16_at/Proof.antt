@@ -6,14 +6,8 @@ use Rattle.numbers.specs.Two.{dec}
 use Rattle.numbers.proofs.i16_at.Statement.{statement}
 use Rattle.numbers.proofs.i16_at.Tie as tie
 
-u16-at-requires : tie.Need-u16-at-requires
-u16-at-requires c κs = search needs
-
-signed-requires : tie.Need-signed-requires
-signed-requires c κs = search needs
-
 returns : tie.Need-returns
 returns c = toZ-ofZ (search needs) ∙ c .signed .ensures ∙ ap (dec 16) (c .before .u16-at .ensures)
 
 pub i16-at-spec : {M : Type 1} → statement M
-i16-at-spec = tie.close (tie.spec u16-at-requires signed-requires returns)
+i16-at-spec = tie.close (tie.spec (λ c κs. search needs) (λ c κs. search needs) returns)

@@ -12,15 +12,6 @@ use Rattle.numbers.proofs.Fit.{negated-fits, one-less-fits, one-less-is
 use Rattle.numbers.proofs.signed.Statement.{statement}
 use Rattle.numbers.proofs.signed.Tie as tie
 
-cast-result : tie.Need-cast-result
-cast-result c = search needs
-
-sub-result : tie.Need-sub-result
-sub-result c = search needs
-
-cast-result-2 : tie.Need-cast-result-2
-cast-result-2 c = search needs
-
 sub-result-2 : tie.Need-sub-result-2
 sub-result-2 c = negated-fits (65535 - c .before .args .n) (omega arith)
 
@@ -40,4 +31,4 @@ returns-2 c =
 pub signed-spec : {M : Type 1} → statement M
 signed-spec =
     tie.close
-    (tie.spec cast-result sub-result cast-result-2 sub-result-2 sub-result-3 returns returns-2)
+    (tie.spec (λ c. search needs) (λ c. search needs) (λ c. search needs) sub-result-2 sub-result-3 returns returns-2)

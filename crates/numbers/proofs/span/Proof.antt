@@ -8,24 +8,6 @@ use Rattle.numbers.specs.Ranges.{leastOf, greatestOf}
 use Rattle.numbers.proofs.span.Statement.{statement}
 use Rattle.numbers.proofs.span.Tie as tie
 
-least-requires : tie.Need-least-requires
-least-requires c κs = search needs
-
-least-requires-2 : tie.Need-least-requires-2
-least-requires-2 c κs = search needs
-
-least-requires-3 : tie.Need-least-requires-3
-least-requires-3 c κs = search needs
-
-greatest-requires : tie.Need-greatest-requires
-greatest-requires c κs = search needs
-
-greatest-requires-2 : tie.Need-greatest-requires-2
-greatest-requires-2 c κs = search needs
-
-greatest-requires-3 : tie.Need-greatest-requires-3
-greatest-requires-3 c κs = search needs
-
 returns : tie.Need-returns
 returns c =
     let s = c .before .before .before .before .before .before .args in
@@ -47,10 +29,10 @@ pub span-spec : {M : Type 1} → statement M
 span-spec =
     tie.close
     (tie.spec
-    least-requires
-    least-requires-2
-    least-requires-3
-    greatest-requires
-    greatest-requires-2
-    greatest-requires-3
+    (λ c κs. search needs)
+    (λ c κs. search needs)
+    (λ c κs. search needs)
+    (λ c κs. search needs)
+    (λ c κs. search needs)
+    (λ c κs. search needs)
     returns)

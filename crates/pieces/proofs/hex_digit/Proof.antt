@@ -6,18 +6,6 @@ use Rattle.wording.specs.Sixteen.{hexDigit}
 use Rattle.pieces.proofs.hex_digit.Statement.{statement}
 use Rattle.pieces.proofs.hex_digit.Tie as tie
 
-cast-result : tie.Need-cast-result
-cast-result c = search needs
-
-add-result : tie.Need-add-result
-add-result c = search needs
-
-cast-result-2 : tie.Need-cast-result-2
-cast-result-2 c = search needs
-
-add-result-2 : tie.Need-add-result-2
-add-result-2 c = search needs
-
 returns : tie.Need-returns
 unfolding hexDigit
 returns c = rw (lt-ltb (c .before .args .d) 10 (search needs))
@@ -28,4 +16,4 @@ returns-2 c = rw (le-ltb (c .before .args .d) 10 (search needs)) (omega arith)
 
 pub hex-digit-spec : {M : Type 1} → statement M
 hex-digit-spec =
-    tie.close (tie.spec cast-result add-result cast-result-2 add-result-2 returns returns-2)
+    tie.close (tie.spec (λ c. search needs) (λ c. search needs) (λ c. search needs) (λ c. search needs) returns returns-2)

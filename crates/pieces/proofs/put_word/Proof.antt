@@ -6,20 +6,11 @@ use Rattle.room.proofs.RoomLaws.{wrote-as}
 use Rattle.pieces.proofs.put_word.Statement.{statement}
 use Rattle.pieces.proofs.put_word.Tie as tie
 
-word-of-requires : tie.Need-word-of-requires
-word-of-requires c κs = search needs
-
-array-share-prefix-letters : tie.Need-array-share-prefix-letters
-array-share-prefix-letters c = search needs
-
 slice-aggregate-put : tie.Need-slice-aggregate-put
 slice-aggregate-put c = let w = c .before .before .before .word-of .ensures in w .size ∙ sym (ap length (w .text))
 
 put-requires : tie.Need-put-requires
 put-requires c κs = rw (c .before .before .before .word-of .ensures .text) (search needs)
-
-same-length : tie.Need-same-length
-same-length c = search needs
 
 returns : tie.Need-returns
 returns c = wrote-as (c .before .before .put .ensures) (c .before .before .before .before .before .before .word-of .ensures .text)
@@ -28,9 +19,9 @@ pub put-word-spec : {M : Type 1} → statement M
 put-word-spec =
     tie.close
     (tie.spec
-    word-of-requires
-    array-share-prefix-letters
+    (λ c κs. search needs)
+    (λ c. search needs)
     slice-aggregate-put
     put-requires
-    same-length
+    (λ c. search needs)
     returns)

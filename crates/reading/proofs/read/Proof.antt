@@ -4,38 +4,17 @@ use Rattle.reading.proofs.ReadLaws.{by-blocks, one-block, by-header, re
 use Rattle.reading.proofs.read.Statement.{statement}
 use Rattle.reading.proofs.read.Tie as tie
 
-read-blocks-requires : tie.Need-read-blocks-requires
-read-blocks-requires c κs = search needs
-
-enum-told : tie.Need-enum-told
-enum-told c = search needs
-
-enum-told-2 : tie.Need-enum-told-2
-enum-told-2 c = search needs
-
 returns : tie.Need-returns
 returns c = by-blocks (c .before .before .before .before .args .sheet .now) (c .before .before .read-blocks .ensures) (c .enum-told2 .given .1)
 
 read-header-requires : tie.Need-read-header-requires
 read-header-requires c κs = one-block (c .before .before .before .before .args .sheet .now) (c .before .before .read-blocks .ensures) (c .enum-told .given .1)
 
-enum-told-3 : tie.Need-enum-told-3
-enum-told-3 c = search needs
-
-enum-told-4 : tie.Need-enum-told-4
-enum-told-4 c = search needs
-
 returns-2 : tie.Need-returns-2
 returns-2 c = by-header (c .before .before .before .before .before .before .before .args .sheet .now) (c .before .before .before .before .before .read-blocks .ensures) (c .before .before .before .enum-told .given .1) (c .before .before .read-header .ensures) (c .enum-told4 .given .1)
 
 read-variables-requires : tie.Need-read-variables-requires
 read-variables-requires c κs = records-inside (c .before .before .before .before .before .before .before .args .sheet .now) (c .before .before .before .before .before .read-blocks .ensures) (c .before .before .before .enum-told .given .1) (c .before .before .read-header .ensures) (c .enum-told3 .given .1)
-
-enum-told-5 : tie.Need-enum-told-5
-enum-told-5 c = search needs
-
-enum-told-6 : tie.Need-enum-told-6
-enum-told-6 c = search needs
 
 returns-3 : tie.Need-returns-3
 returns-3 c = by-variables (c .before .before .before .before .before .before .before .before .before .before .args .sheet .now) (c .before .before .before .before .before .before .before .before .read-blocks .ensures) (c .before .before .before .before .before .before .enum-told .given .1) (c .before .before .before .before .before .read-header .ensures) (c .before .before .before .enum-told3 .given .1) (c .before .before .read-variables .ensures) (c .enum-told6 .given .1)
@@ -50,17 +29,17 @@ pub read-spec : {M : Type 1} → statement M
 read-spec =
     tie.close
     (tie.spec
-    read-blocks-requires
-    enum-told
-    enum-told-2
+    (λ c κs. search needs)
+    (λ c. search needs)
+    (λ c. search needs)
     returns
     read-header-requires
-    enum-told-3
-    enum-told-4
+    (λ c. search needs)
+    (λ c. search needs)
     returns-2
     read-variables-requires
-    enum-told-5
-    enum-told-6
+    (λ c. search needs)
+    (λ c. search needs)
     returns-3
     read-nodes-requires
     returns-4)

@@ -95,47 +95,11 @@ three-callees t = (head-reads.Asked, head-reads.Learnt, operand-below t, operand
 abbrev two-callees : ℕ → two-lts.Claims
 two-callees t = (head-reads.Asked, head-reads.Learnt, operand-below t, operand.Post, put-reads.Asked, put-reads.Learnt)
 
-one-head-requires : (t : ℕ) → one-lts.Need-head-requires (one-callees t) (one-at t) one.Post
-one-head-requires t c κs = search needs
-
 one-operand-requires : (t : ℕ) → one-lts.Need-operand-requires (one-callees t) (one-at t) one.Post
 one-operand-requires t c κs = (omega arith, (c .before .before .before .before .before .before .before .pre .1 .0, omega arith))
 
-one-slice-aggregate-put : (t : ℕ) → one-lts.Need-slice-aggregate-put (one-callees t) (one-at t) one.Post
-one-slice-aggregate-put t c = search needs
-
-one-put-requires : (t : ℕ) → one-lts.Need-put-requires (one-callees t) (one-at t) one.Post
-one-put-requires t c κs = search needs
-
-one-same-length : (t : ℕ) → one-lts.Need-same-length (one-callees t) (one-at t) one.Post
-one-same-length t c = search needs
-
 one-returns : (t : ℕ) → one-lts.Need-returns (one-callees t) (one-at t) one.Post
 one-returns t c = wrote-one (omega arith) (c .before .before .before .before .before .before .before .before .before .before .before .head .ensures) (c .before .before .before .before .before .before .before .operand .ensures) (c .before .before .put .ensures)
-
-operand-slice-aggregate-put : (t : ℕ) → operand-lts.Need-slice-aggregate-put (operand-callees t) (operand-at t) operand.Post
-operand-slice-aggregate-put t c = search needs
-
-operand-put-requires : (t : ℕ) → operand-lts.Need-put-requires (operand-callees t) (operand-at t) operand.Post
-operand-put-requires t c κs = search needs
-
-operand-sub-term : (t : ℕ) → operand-lts.Need-sub-term (operand-callees t) (operand-at t) operand.Post
-operand-sub-term t c = search needs
-
-operand-part-term-start : (t : ℕ) → operand-lts.Need-part-term-start (operand-callees t) (operand-at t) operand.Post
-operand-part-term-start t c = search needs
-
-operand-part-term-end : (t : ℕ) → operand-lts.Need-part-term-end (operand-callees t) (operand-at t) operand.Post
-operand-part-term-end t c = search needs
-
-operand-term-requires : (t : ℕ) → operand-lts.Need-term-requires (operand-callees t) (operand-at t) operand.Post
-operand-term-requires t c κs = search needs
-
-operand-add-result : (t : ℕ) → operand-lts.Need-add-result (operand-callees t) (operand-at t) operand.Post
-operand-add-result t c = search needs
-
-operand-same-length : (t : ℕ) → operand-lts.Need-same-length (operand-callees t) (operand-at t) operand.Post
-operand-same-length t c = search needs
 
 operand-returns : (t : ℕ) → operand-lts.Need-returns (operand-callees t) (operand-at t) operand.Post
 operand-returns t c = chain (omega arith) (c .before .before .before .before .before .before .put .ensures) (wrote-part _ (c .before .before .term .ensures))
@@ -143,48 +107,24 @@ operand-returns t c = chain (omega arith) (c .before .before .before .before .be
 term-record-at-requires : (t : ℕ) → term-lts.Need-record-at-requires (term-callees t) (term-at t) term.Post
 term-record-at-requires t c κs = inside (c .before .before .pre .1 .0)
 
-term-shape-of-requires : (t : ℕ) → term-lts.Need-shape-of-requires (term-callees t) (term-at t) term.Post
-term-shape-of-requires t c κs = search needs
-
-term-enum-told : (t : ℕ) → term-lts.Need-enum-told (term-callees t) (term-at t) term.Post
-term-enum-told t c = search needs
-
-term-enum-told-2 : (t : ℕ) → term-lts.Need-enum-told-2 (term-callees t) (term-at t) term.Post
-term-enum-told-2 t c = search needs
-
 term-put-word-requires : (t : ℕ) → term-lts.Need-put-word-requires (term-callees t) (term-at t) term.Post
 term-put-word-requires t c κs = omega (arith, ap length (node-text (c .before .before .before .before .before .before .before .pre .1 .0) (c .before .before .before .before .record-at .ensures) (c .before .before .before .shape-of .ensures) (c .before .enum-told2 .given .1)))
-
-term-enum-told-3 : (t : ℕ) → term-lts.Need-enum-told-3 (term-callees t) (term-at t) term.Post
-term-enum-told-3 t c = search needs
 
 term-constant-requires : (t : ℕ) → term-lts.Need-constant-requires (term-callees t) (term-at t) term.Post
 term-constant-requires t c κs = omega (arith, ap length (node-text (c .before .before .before .before .before .before .before .pre .1 .0) (c .before .before .before .before .record-at .ensures) (c .before .before .before .shape-of .ensures) (c .before .enum-told3 .given .1)), literal-length (dec 16 (c .before .before .before .before .record-at .result .value)))
 
-term-enum-told-4 : (t : ℕ) → term-lts.Need-enum-told-4 (term-callees t) (term-at t) term.Post
-term-enum-told-4 t c = search needs
-
 term-symbol-requires : (t : ℕ) → term-lts.Need-symbol-requires (term-callees t) (term-at t) term.Post
 term-symbol-requires t c κs = (named-small (c .before .before .before .before .before .before .before .pre .1 .0) (c .before .before .before .before .record-at .ensures) (c .before .before .before .shape-of .ensures) (c .before .enum-told4 .given .1), omega (arith, ap length (node-text (c .before .before .before .before .before .before .before .pre .1 .0) (c .before .before .before .before .record-at .ensures) (c .before .before .before .shape-of .ensures) (c .before .enum-told4 .given .1))))
-
-term-enum-told-5 : (t : ℕ) → term-lts.Need-enum-told-5 (term-callees t) (term-at t) term.Post
-term-enum-told-5 t c = search needs
 
 term-one-requires : (t : ℕ) → term-lts.Need-one-requires (term-callees t) (term-at t) term.Post
 term-one-requires t c κs =
     let o = one-node (c .before .before .before .before .before .before .before .pre .1 .0) (c .before .before .before .before .record-at .ensures) (c .before .before .before .shape-of .ensures) (c .before .enum-told5 .given .1) in
     (omega arith, (o .first, omega arith))
 
-term-enum-told-6 : (t : ℕ) → term-lts.Need-enum-told-6 (term-callees t) (term-at t) term.Post
-term-enum-told-6 t c = search needs
-
 term-two-requires : (t : ℕ) → term-lts.Need-two-requires (term-callees t) (term-at t) term.Post
 term-two-requires t c κs =
     let o = two-node (c .before .before .before .before .before .before .before .pre .1 .0) (c .before .before .before .before .record-at .ensures) (c .before .before .before .shape-of .ensures) (c .before .enum-told6 .given .1) in
     (omega arith, (o .first, o .second, omega arith))
-
-term-enum-told-7 : (t : ℕ) → term-lts.Need-enum-told-7 (term-callees t) (term-at t) term.Post
-term-enum-told-7 t c = search needs
 
 term-three-requires : (t : ℕ) → term-lts.Need-three-requires (term-callees t) (term-at t) term.Post
 term-three-requires t c κs =
@@ -194,44 +134,23 @@ term-three-requires t c κs =
 term-returns : (t : ℕ) → term-lts.Need-returns (term-callees t) (term-at t) term.Post
 term-returns t c = wrote-as (wrote-none _ 0) (sym (node-text (c .before .before .before .before .before .before .pre .1 .0) (c .before .before .before .record-at .ensures) (c .before .before .shape-of .ensures) (c .enum-told .given .1)))
 
-term-same-length : (t : ℕ) → term-lts.Need-same-length (term-callees t) (term-at t) term.Post
-term-same-length t c = search needs
-
 term-returns-2 : (t : ℕ) → term-lts.Need-returns-2 (term-callees t) (term-at t) term.Post
 term-returns-2 t c = wrote-as (c .before .before .put-word .ensures) (sym (node-text (c .before .before .before .before .before .before .before .before .before .before .pre .1 .0) (c .before .before .before .before .before .before .before .record-at .ensures) (c .before .before .before .before .before .before .shape-of .ensures) (c .before .before .before .before .enum-told2 .given .1)))
-
-term-same-length-2 : (t : ℕ) → term-lts.Need-same-length-2 (term-callees t) (term-at t) term.Post
-term-same-length-2 t c = search needs
 
 term-returns-3 : (t : ℕ) → term-lts.Need-returns-3 (term-callees t) (term-at t) term.Post
 term-returns-3 t c = wrote-as (c .before .before .constant .ensures) (valued-text (c .before .before .before .before .before .before .before .before .before .before .pre .1 .0) (c .before .before .before .before .before .before .before .record-at .ensures) (c .before .before .before .before .before .before .shape-of .ensures) (λ i. omega (arith, c .before .before .before .before .before .before .before .before .before .shared-slice-known .given i)) (c .before .before .before .before .enum-told3 .given .1))
 
-term-same-length-3 : (t : ℕ) → term-lts.Need-same-length-3 (term-callees t) (term-at t) term.Post
-term-same-length-3 t c = search needs
-
 term-returns-4 : (t : ℕ) → term-lts.Need-returns-4 (term-callees t) (term-at t) term.Post
 term-returns-4 t c = wrote-as (c .before .before .symbol .ensures) (sym (node-text (c .before .before .before .before .before .before .before .before .before .before .pre .1 .0) (c .before .before .before .before .before .before .before .record-at .ensures) (c .before .before .before .before .before .before .shape-of .ensures) (c .before .before .before .before .enum-told4 .given .1)))
-
-term-same-length-4 : (t : ℕ) → term-lts.Need-same-length-4 (term-callees t) (term-at t) term.Post
-term-same-length-4 t c = search needs
 
 term-returns-5 : (t : ℕ) → term-lts.Need-returns-5 (term-callees t) (term-at t) term.Post
 term-returns-5 t c = wrote-as (c .before .before .one .ensures) (sym (node-text (c .before .before .before .before .before .before .before .before .before .before .pre .1 .0) (c .before .before .before .before .before .before .before .record-at .ensures) (c .before .before .before .before .before .before .shape-of .ensures) (c .before .before .before .before .enum-told5 .given .1)))
 
-term-same-length-5 : (t : ℕ) → term-lts.Need-same-length-5 (term-callees t) (term-at t) term.Post
-term-same-length-5 t c = search needs
-
 term-returns-6 : (t : ℕ) → term-lts.Need-returns-6 (term-callees t) (term-at t) term.Post
 term-returns-6 t c = wrote-as (c .before .before .two .ensures) (sym (node-text (c .before .before .before .before .before .before .before .before .before .before .pre .1 .0) (c .before .before .before .before .before .before .before .record-at .ensures) (c .before .before .before .before .before .before .shape-of .ensures) (c .before .before .before .before .enum-told6 .given .1)))
 
-term-same-length-6 : (t : ℕ) → term-lts.Need-same-length-6 (term-callees t) (term-at t) term.Post
-term-same-length-6 t c = search needs
-
 term-returns-7 : (t : ℕ) → term-lts.Need-returns-7 (term-callees t) (term-at t) term.Post
 term-returns-7 t c = wrote-as (c .before .before .three .ensures) (sym (node-text (c .before .before .before .before .before .before .before .before .before .before .pre .1 .0) (c .before .before .before .before .before .before .before .record-at .ensures) (c .before .before .before .before .before .before .shape-of .ensures) (c .before .before .before .before .enum-told7 .given .1)))
-
-three-head-requires : (t : ℕ) → three-lts.Need-head-requires (three-callees t) (three-at t) three.Post
-three-head-requires t c κs = search needs
 
 three-operand-requires : (t : ℕ) → three-lts.Need-operand-requires (three-callees t) (three-at t) three.Post
 three-operand-requires t c κs = (omega arith, (c .before .before .before .before .before .before .before .pre .1 .0, omega arith))
@@ -242,35 +161,14 @@ three-operand-requires-2 t c κs = (omega arith, (c .before .before .before .bef
 three-operand-requires-3 : (t : ℕ) → three-lts.Need-operand-requires-3 (three-callees t) (three-at t) three.Post
 three-operand-requires-3 t c κs = (omega arith, (c .before .before .before .before .before .before .before .before .before .before .before .before .before .before .before .pre .1 .2, omega arith))
 
-three-slice-aggregate-put : (t : ℕ) → three-lts.Need-slice-aggregate-put (three-callees t) (three-at t) three.Post
-three-slice-aggregate-put t c = search needs
-
-three-put-requires : (t : ℕ) → three-lts.Need-put-requires (three-callees t) (three-at t) three.Post
-three-put-requires t c κs = search needs
-
-three-same-length : (t : ℕ) → three-lts.Need-same-length (three-callees t) (three-at t) three.Post
-three-same-length t c = search needs
-
 three-returns : (t : ℕ) → three-lts.Need-returns (three-callees t) (three-at t) three.Post
 three-returns t c = wrote-three (omega arith) (c .before .before .before .before .before .before .before .before .before .before .before .before .before .before .before .before .before .before .before .head .ensures) (c .before .before .before .before .before .before .before .before .before .before .before .before .before .before .before .operand .ensures) (c .before .before .before .before .before .before .before .before .before .before .before .operand2 .ensures) (c .before .before .before .before .before .before .before .operand3 .ensures) (c .before .before .put .ensures)
-
-two-head-requires : (t : ℕ) → two-lts.Need-head-requires (two-callees t) (two-at t) two.Post
-two-head-requires t c κs = search needs
 
 two-operand-requires : (t : ℕ) → two-lts.Need-operand-requires (two-callees t) (two-at t) two.Post
 two-operand-requires t c κs = (omega arith, (c .before .before .before .before .before .before .before .pre .1 .0, omega arith))
 
 two-operand-requires-2 : (t : ℕ) → two-lts.Need-operand-requires-2 (two-callees t) (two-at t) two.Post
 two-operand-requires-2 t c κs = (omega arith, (c .before .before .before .before .before .before .before .before .before .before .before .pre .1 .1, omega arith))
-
-two-slice-aggregate-put : (t : ℕ) → two-lts.Need-slice-aggregate-put (two-callees t) (two-at t) two.Post
-two-slice-aggregate-put t c = search needs
-
-two-put-requires : (t : ℕ) → two-lts.Need-put-requires (two-callees t) (two-at t) two.Post
-two-put-requires t c κs = search needs
-
-two-same-length : (t : ℕ) → two-lts.Need-same-length (two-callees t) (two-at t) two.Post
-two-same-length t c = search needs
 
 two-returns : (t : ℕ) → two-lts.Need-returns (two-callees t) (two-at t) two.Post
 two-returns t c = wrote-two (omega arith) (c .before .before .before .before .before .before .before .before .before .before .before .before .before .before .before .head .ensures) (c .before .before .before .before .before .before .before .before .before .before .before .operand .ensures) (c .before .before .before .before .before .before .before .operand2 .ensures) (c .before .before .put .ensures)
@@ -279,74 +177,74 @@ pub +one+operand+term+three+two-spec : {M : Type 1} → statement M
 +one+operand+term+three+two-spec = close μ-one μ-operand μ-term μ-three μ-two (λ t. one-lts.spec (one-callees t)
     (one-at t)
     one.Post
-    (one-head-requires t)
+    (λ c κs. search needs)
     (one-operand-requires t)
-    (one-slice-aggregate-put t)
-    (one-put-requires t)
-    (one-same-length t)
+    (λ c. search needs)
+    (λ c κs. search needs)
+    (λ c. search needs)
     (one-returns t))
     (λ t. operand-lts.spec
     (operand-callees t)
     (operand-at t)
     operand.Post
-    (operand-slice-aggregate-put t)
-    (operand-put-requires t)
-    (operand-sub-term t)
-    (operand-part-term-start t)
-    (operand-part-term-end t)
-    (operand-term-requires t)
-    (operand-add-result t)
-    (operand-same-length t)
+    (λ c. search needs)
+    (λ c κs. search needs)
+    (λ c. search needs)
+    (λ c. search needs)
+    (λ c. search needs)
+    (λ c κs. search needs)
+    (λ c. search needs)
+    (λ c. search needs)
     (operand-returns t))
     (λ t. term-lts.spec (term-callees t)
     (term-at t)
     term.Post
     (term-record-at-requires t)
-    (term-shape-of-requires t)
-    (term-enum-told t)
-    (term-enum-told-2 t)
+    (λ c κs. search needs)
+    (λ c. search needs)
+    (λ c. search needs)
     (term-put-word-requires t)
-    (term-enum-told-3 t)
+    (λ c. search needs)
     (term-constant-requires t)
-    (term-enum-told-4 t)
+    (λ c. search needs)
     (term-symbol-requires t)
-    (term-enum-told-5 t)
+    (λ c. search needs)
     (term-one-requires t)
-    (term-enum-told-6 t)
+    (λ c. search needs)
     (term-two-requires t)
-    (term-enum-told-7 t)
+    (λ c. search needs)
     (term-three-requires t)
     (term-returns t)
-    (term-same-length t)
+    (λ c. search needs)
     (term-returns-2 t)
-    (term-same-length-2 t)
+    (λ c. search needs)
     (term-returns-3 t)
-    (term-same-length-3 t)
+    (λ c. search needs)
     (term-returns-4 t)
-    (term-same-length-4 t)
+    (λ c. search needs)
     (term-returns-5 t)
-    (term-same-length-5 t)
+    (λ c. search needs)
     (term-returns-6 t)
-    (term-same-length-6 t)
+    (λ c. search needs)
     (term-returns-7 t))
     (λ t. three-lts.spec (three-callees t)
     (three-at t)
     three.Post
-    (three-head-requires t)
+    (λ c κs. search needs)
     (three-operand-requires t)
     (three-operand-requires-2 t)
     (three-operand-requires-3 t)
-    (three-slice-aggregate-put t)
-    (three-put-requires t)
-    (three-same-length t)
+    (λ c. search needs)
+    (λ c κs. search needs)
+    (λ c. search needs)
     (three-returns t))
     λ t. two-lts.spec (two-callees t)
     (two-at t)
     two.Post
-    (two-head-requires t)
+    (λ c κs. search needs)
     (two-operand-requires t)
     (two-operand-requires-2 t)
-    (two-slice-aggregate-put t)
-    (two-put-requires t)
-    (two-same-length t)
+    (λ c. search needs)
+    (λ c κs. search needs)
+    (λ c. search needs)
     (two-returns t)

@@ -47,30 +47,6 @@ three-here t c = three-node (c .before .before .before .before .before .before .
 term-len-record-at-requires : (t : ℕ) → term-len-lts.Need-record-at-requires (term-len-callees t) (term-len-at t) term-len.Post
 term-len-record-at-requires t c κs = inside (c .before .pre .1)
 
-term-len-word-len-requires : (t : ℕ) → term-len-lts.Need-word-len-requires (term-len-callees t) (term-len-at t) term-len.Post
-term-len-word-len-requires t c κs = search needs
-
-term-len-shape-of-requires : (t : ℕ) → term-len-lts.Need-shape-of-requires (term-len-callees t) (term-len-at t) term-len.Post
-term-len-shape-of-requires t c κs = search needs
-
-term-len-enum-told : (t : ℕ) → term-len-lts.Need-enum-told (term-len-callees t) (term-len-at t) term-len.Post
-term-len-enum-told t c = search needs
-
-term-len-enum-told-2 : (t : ℕ) → term-len-lts.Need-enum-told-2 (term-len-callees t) (term-len-at t) term-len.Post
-term-len-enum-told-2 t c = search needs
-
-term-len-enum-told-3 : (t : ℕ) → term-len-lts.Need-enum-told-3 (term-len-callees t) (term-len-at t) term-len.Post
-term-len-enum-told-3 t c = search needs
-
-term-len-enum-told-4 : (t : ℕ) → term-len-lts.Need-enum-told-4 (term-len-callees t) (term-len-at t) term-len.Post
-term-len-enum-told-4 t c = search needs
-
-term-len-symbol-len-requires : (t : ℕ) → term-len-lts.Need-symbol-len-requires (term-len-callees t) (term-len-at t) term-len.Post
-term-len-symbol-len-requires t c κs = search needs
-
-term-len-enum-told-5 : (t : ℕ) → term-len-lts.Need-enum-told-5 (term-len-callees t) (term-len-at t) term-len.Post
-term-len-enum-told-5 t c = search needs
-
 term-len-add-result : (t : ℕ) → term-len-lts.Need-add-result (term-len-callees t) (term-len-at t) term-len.Post
 term-len-add-result t c = let o = one-here t c in omega arith
 
@@ -79,9 +55,6 @@ term-len-term-len-requires t c κs = let o = one-here t c in (omega arith, o .fi
 
 term-len-add-result-2 : (t : ℕ) → term-len-lts.Need-add-result-2 (term-len-callees t) (term-len-at t) term-len.Post
 term-len-add-result-2 t c = let o = one-here t (c .before) in omega arith
-
-term-len-enum-told-6 : (t : ℕ) → term-len-lts.Need-enum-told-6 (term-len-callees t) (term-len-at t) term-len.Post
-term-len-enum-told-6 t c = search needs
 
 term-len-add-result-3 : (t : ℕ) → term-len-lts.Need-add-result-3 (term-len-callees t) (term-len-at t) term-len.Post
 term-len-add-result-3 t c = let o = two-here t c in omega arith
@@ -97,9 +70,6 @@ term-len-term-len-requires-3 t c κs = let o = two-here t (c .before) in (omega 
 
 term-len-add-result-5 : (t : ℕ) → term-len-lts.Need-add-result-5 (term-len-callees t) (term-len-at t) term-len.Post
 term-len-add-result-5 t c = let o = two-here t (c .before .before) in omega arith
-
-term-len-enum-told-7 : (t : ℕ) → term-len-lts.Need-enum-told-7 (term-len-callees t) (term-len-at t) term-len.Post
-term-len-enum-told-7 t c = search needs
 
 term-len-add-result-6 : (t : ℕ) → term-len-lts.Need-add-result-6 (term-len-callees t) (term-len-at t) term-len.Post
 term-len-add-result-6 t c = let o = three-here t c in omega arith
@@ -148,24 +118,24 @@ pub +term-len-spec : {M : Type 1} → statement M
     (term-len-at t)
     term-len.Post
     (term-len-record-at-requires t)
-    (term-len-word-len-requires t)
-    (term-len-shape-of-requires t)
-    (term-len-enum-told t)
-    (term-len-enum-told-2 t)
-    (term-len-enum-told-3 t)
-    (term-len-enum-told-4 t)
-    (term-len-symbol-len-requires t)
-    (term-len-enum-told-5 t)
+    (λ c κs. search needs)
+    (λ c κs. search needs)
+    (λ c. search needs)
+    (λ c. search needs)
+    (λ c. search needs)
+    (λ c. search needs)
+    (λ c κs. search needs)
+    (λ c. search needs)
     (term-len-add-result t)
     (term-len-term-len-requires t)
     (term-len-add-result-2 t)
-    (term-len-enum-told-6 t)
+    (λ c. search needs)
     (term-len-add-result-3 t)
     (term-len-term-len-requires-2 t)
     (term-len-add-result-4 t)
     (term-len-term-len-requires-3 t)
     (term-len-add-result-5 t)
-    (term-len-enum-told-7 t)
+    (λ c. search needs)
     (term-len-add-result-6 t)
     (term-len-term-len-requires-4 t)
     (term-len-add-result-7 t)

@@ -9,26 +9,11 @@ use Rattle.writer.proofs.ScriptLaws.{goal-ready, goal-from}
 use Rattle.writer.proofs.goal_lines.Statement.{statement}
 use Rattle.writer.proofs.goal_lines.Tie as tie
 
-goal-node-requires : tie.Need-goal-node-requires
-goal-node-requires c κs = search needs
-
-slice-aggregate-put : tie.Need-slice-aggregate-put
-slice-aggregate-put c = search needs
-
-put-requires : tie.Need-put-requires
-put-requires c κs = search needs
-
 operand-requires : tie.Need-operand-requires
 operand-requires c κs = let g = c .before .before .before .before .before .before .goal-node .ensures in (goal-ready _ (c .before .before .before .before .before .before .before .before .before .pre .0) g, omega (arith, ap (λ n. length (textAt (c .before .before .before .before .before .before .before .before .before .args .sheet .now) n)) g))
 
-slice-aggregate-put-2 : tie.Need-slice-aggregate-put-2
-slice-aggregate-put-2 c = search needs
-
 put-requires-2 : tie.Need-put-requires-2
 put-requires-2 c κs = omega (arith, ap (λ n. length (textAt (c .before .before .before .before .before .before .before .before .before .before .before .before .before .before .args .sheet .now) n)) (c .before .before .before .before .before .before .before .before .before .before .before .goal-node .ensures))
-
-same-length : tie.Need-same-length
-same-length c = search needs
 
 returns : tie.Need-returns
 returns c = wrote-as (chain3 (omega (arith, ap (λ n. length (textAt (c .before .before .before .before .before .before .before .before .before .before .before .before .before .before .before .before .before .args .sheet .now) n)) (c .before .before .before .before .before .before .before .before .before .before .before .before .before .before .goal-node .ensures))) (c .before .before .before .before .before .before .before .before .before .before .before .put .ensures) (c .before .before .before .before .before .before .before .operand .ensures) (c .before .before .put2 .ensures)) (goal-from _ (c .before .before .before .before .before .before .before .before .before .before .before .before .before .before .goal-node .ensures))
@@ -37,11 +22,11 @@ pub goal-lines-spec : {M : Type 1} → statement M
 goal-lines-spec =
     tie.close
     (tie.spec
-    goal-node-requires
-    slice-aggregate-put
-    put-requires
+    (λ c κs. search needs)
+    (λ c. search needs)
+    (λ c κs. search needs)
     operand-requires
-    slice-aggregate-put-2
+    (λ c. search needs)
     put-requires-2
-    same-length
+    (λ c. search needs)
     returns)

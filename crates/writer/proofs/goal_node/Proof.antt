@@ -15,8 +15,5 @@ sub-t3 c = omega (arith, accepted-counted _ (c .before .before .pre) .some-node)
 cast-t4 : tie.Need-cast-t4
 cast-t4 c = omega (arith, accepted-counted _ (c .before .before .pre) .most)
 
-returns : tie.Need-returns
-returns c = search needs
-
 pub goal-node-spec : {M : Type 1} → statement M
-goal-node-spec = tie.close (tie.spec node-count-requires sub-t3 cast-t4 returns)
+goal-node-spec = tie.close (tie.spec node-count-requires sub-t3 cast-t4 (λ c. search needs))

@@ -10,9 +10,6 @@ use Rattle.writer.proofs.put_script.Tie as tie
 variable-count-requires : tie.Need-variable-count-requires
 variable-count-requires c κs = first-block _ (c .before .before .pre .0)
 
-slice-aggregate-put : tie.Need-slice-aggregate-put
-slice-aggregate-put c = search needs
-
 put-requires : tie.Need-put-requires
 put-requires c κs = omega (arith, script-parts _ (c .before .before .before .before .before .pre .0) (c .before .before .variable-count .ensures))
 
@@ -25,9 +22,6 @@ range-lines-requires c κs = (first-block _ (c .before .before .before .before .
 goal-lines-requires : tie.Need-goal-lines-requires
 goal-lines-requires c κs = (c .before .before .before .before .before .before .before .before .before .before .before .before .before .before .before .before .before .pre .0, omega (arith, script-parts _ (c .before .before .before .before .before .before .before .before .before .before .before .before .before .before .before .before .before .pre .0) (c .before .before .before .before .before .before .before .before .before .before .before .before .before .before .variable-count .ensures)))
 
-same-length : tie.Need-same-length
-same-length c = search needs
-
 returns : tie.Need-returns
 returns c =
     wrote-as (chain4 (omega (arith, script-parts _ (c .before .before .before .before .before .before .before .before .before .before .before .before .before .before .before .before .before .before .before .before .pre .0) (c .before .before .before .before .before .before .before .before .before .before .before .before .before .before .before .before .before .variable-count .ensures))) (c .before .before .before .before .before .before .before .before .before .before .before .before .before .before .put .ensures) (c .before .before .before .before .before .before .before .before .before .before .declarations .ensures) (c .before .before .before .before .before .before .range-lines .ensures) (c .before .before .goal-lines .ensures))
@@ -38,10 +32,10 @@ put-script-spec =
     tie.close
     (tie.spec
     variable-count-requires
-    slice-aggregate-put
+    (λ c. search needs)
     put-requires
     declarations-requires
     range-lines-requires
     goal-lines-requires
-    same-length
+    (λ c. search needs)
     returns)

@@ -16,9 +16,6 @@ use Rattle.writer.proofs.script_len.Tie as tie
 variable-count-requires : tie.Need-variable-count-requires
 variable-count-requires c κs = first-block _ (c .before .pre)
 
-goal-node-requires : tie.Need-goal-node-requires
-goal-node-requires c κs = search needs
-
 term-len-requires : tie.Need-term-len-requires
 term-len-requires c κs = goal-ready _ (c .before .before .before .pre) (c .goal-node .ensures)
 
@@ -44,7 +41,7 @@ script-len-spec =
     tie.close
     (tie.spec
     variable-count-requires
-    goal-node-requires
+    (λ c κs. search needs)
     term-len-requires
     variables-len-requires
     add-result
