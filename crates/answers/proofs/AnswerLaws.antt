@@ -1,6 +1,6 @@
 -- The answers from what the sheet's functions say: the refusal's line, the script, the check's line and the tally's. Assumes nothing.
 use Prim.Native.Nat.{ℕ, _+_, _≤_}
-use mathlib.Core.Path.{_≡_, refl, sym, ap, ap₂, _∙_}
+use mathlib.Core.Path.{_≡_, refl, sym, ap, _∙_}
 use mathlib.Core.Bool.{Bool, true, false, true≢false}
 use mathlib.Core.List.{List, _++_}
 use mathlib.Core.Option.{Option, none, some}
@@ -11,7 +11,7 @@ use lib.ListN.{length, take, drop, replicate, length-append}
 use lib.Seq.{take-at, getD-take, length-take-le}
 use Rattle.io.specs.Counts.{Counts}
 use Rattle.lists.specs.Ascii.{ascii}
-use Rattle.lists.proofs.FirstLaws.{otherwise-none, otherwise-some}
+use Rattle.lists.proofs.FirstLaws.{otherwise-some}
 use Rattle.numbers.specs.declared.Refusal.{Refusal}
 use Rattle.numbers.specs.Bytes.{Bytes}
 use Rattle.meaning.specs.Cases.{firstFailure, held, failed}
@@ -37,7 +37,7 @@ use Rattle.writer.specs.declared.Written.the-variants.{Script as written, Refus
 use Rattle.writer.specs.Writes.{scriptRefusal, writtenSaid, Writes}
 use Rattle.writer.specs.Writes.{verdict as scriptVerdict, roomAfter as scriptRoom}
 use Rattle.writer.proofs.LineLaws.{script-short}
-use Rattle.answers.specs.Answers.{enoughRoom, numbersLine, refusalLine, answered, settings, checkLine, answerText}
+use Rattle.answers.specs.Answers.{enoughRoom, numbersLine, refusalLine, answered, checkLine, answerText}
 use Rattle.answers.specs.Pieces.{Settled, failsLine}
 use Rattle.answers.specs.declared.Request.{Request}
 use Rattle.answers.specs.declared.Request.the-variants.{Read, Script, Check, Tally}

@@ -1,12 +1,12 @@
 -- The names and values of a case, one variable after another. Assumes nothing.
 use Prim.Native.Nat.{ℕ, zero, suc, _+_, _≤_, _<_, min}
-use mathlib.Core.Path.{_≡_, refl, sym, ap, ap₂, _∙_}
-use mathlib.Core.List.{List, [], _∷_, _++_, append-assoc, append-nil}
+use mathlib.Core.Path.{_≡_, sym, ap, _∙_}
+use mathlib.Core.List.{List, _++_, append-assoc, append-nil}
 use mathlib.Core.Option.{none}
 use native.Mathlib.Nat.{add-zero, zero-add, add-suc, suc-add}
 use native.Mathlib.Omega.{arith}
 use lib.IntN.{ℤ, pos}
-use lib.ListN.{length, getD, take, drop, length-append, length-take}
+use lib.ListN.{length, getD, take, drop, length-take}
 use mir.Syntax.{w16}
 use mir.Val.{SFits, toZ, ofZ}
 use Rattle.lists.specs.Ascii.{ascii}
@@ -14,7 +14,7 @@ use Rattle.lists.specs.Places.{at, from}
 use Rattle.lists.proofs.RunLaws.{stands-from, run-part}
 use Rattle.numbers.specs.Ranges.{Narrow}
 use Rattle.numbers.proofs.Fit.{i16-of-narrow}
-use Rattle.layout.specs.Limits.{mostVariables, mostNameBytes, variablePlace}
+use Rattle.layout.specs.Limits.{mostVariables, variablePlace}
 use Rattle.layout.specs.Parts.{variableCount, variableAt, nameSize, nameIn, ruleIn}
 use Rattle.reading.specs.Cascade.{refusalOf}
 use Rattle.reading.proofs.RuleLaws.{accepted-counted, accepted-kept}
@@ -23,7 +23,7 @@ use Rattle.room.proofs.RoomLaws.{wrote-as, chain}
 use Rattle.writer.specs.Texts.{lines}
 use Rattle.writer.proofs.LineLaws.{lines-more, wrote-no-lines}
 use Rattle.answers.specs.Answers.{signed, setting, settings}
-use Rattle.answers.specs.Pieces.{settingAt, settingsAt, failsLine}
+use Rattle.answers.specs.Pieces.{Named, settingAt, settingsAt, failsLine}
 use Rattle.answers.proofs.SignedLaws.{kept-is}
 
 -- ---- a variable's name in an accepted sheet
@@ -40,19 +40,16 @@ module _ (s : List ℕ) (e : refusalOf s ≡ none) where
         let f = c .few in
         omega arith
 
-    module _ {t : List ℕ} (et : t ≡ take (nameSize s p) (drop (p + 6) s)) where
-      pub name-is : t ≡ variableAt s i .name
-      name-is = et ∙ ap (nameIn s) ep
+    pub named : {t : List ℕ} → t ≡ take (nameSize s p) (drop (p + 6) s) → Named s i t
+    named et =
+        let k = accepted-kept s e i h .0 .short in
+        let m : length (nameIn s (variablePlace i)) ≡ min (nameSize s (variablePlace i)) (length (drop (variablePlace i + 6) s)) = length-take _ _ in
+        let q = et ∙ ap (nameIn s) ep in
+        record { name = q; short = rw q (omega arith) }
 
-      pub name-short : length t ≤ mostNameBytes
-      name-short =
-          let k = accepted-kept s e i h .0 .short in
-          let m : length (nameIn s (variablePlace i)) ≡ min (nameSize s (variablePlace i)) (length (drop (variablePlace i + 6) s)) = length-take _ _ in
-          rw name-is (omega arith)
-
-      pub setting-from : {z : ℤ} → SFits w16 z → ascii " " ++ t ++ ascii "=" ++ signed (toZ w16 (ofZ w16 z)) ≡ setting (variableAt s i .name) z
-      unfolding setting
-      setting-from f = rw (name-is, kept-is f)
+pub setting-from : {s t : List ℕ} {i : ℕ} {z : ℤ} → Named s i t → SFits w16 z → ascii " " ++ t ++ ascii "=" ++ signed (toZ w16 (ofZ w16 z)) ≡ setting (variableAt s i .name) z
+unfolding setting
+setting-from n f = rw (n .name, kept-is f)
 
 -- ---- one variable more
 pub begin : (s : List ℕ) (row : List ℤ) (room : List ℕ) (at : ℕ) → Wrote (settingsAt s row 0) room room at at

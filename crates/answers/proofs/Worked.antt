@@ -1,0 +1,70 @@
+-- Answers worked out by running the definitions: numbers, and each request about small sheets. Assumes nothing.
+use Prim.Native.Nat.{ℕ}
+use mathlib.Core.Path.{_≡_, refl}
+use mathlib.Core.List.{List, [], _∷_, _++_, map}
+use lib.IntN.{pos, negsuc}
+use lib.ListN.{replicate}
+use Rattle.lists.specs.Ascii.{ascii}
+use Rattle.lists.specs.Places.{allBelow}
+use Rattle.lists.specs.Course.{below, course}
+use Rattle.lists.specs.First.{first}
+use Rattle.numbers.specs.Two.{enc, dec}
+use Rattle.numbers.specs.Ranges.{isNarrow, hasNarrowEnds, leastOf, greatestOf}
+use Rattle.meaning.specs.Value.{value}
+use Rattle.meaning.specs.Cases.{sizeOf, casesOf, holds, failures, firstFailure, held, failed}
+use Rattle.kinds.specs.Kinds.{find, kindOf}
+use Rattle.kinds.specs.Rows.{by-rows}
+use Rattle.layout.specs.Checks.{weighted, checkOf, sealed, blockRight}
+use Rattle.layout.specs.Starts.{startAt}
+use Rattle.layout.specs.Goal.{treeAt}
+use Rattle.layout.specs.Fold.{ofTree, ofNode}
+use Rattle.layout.specs.Nodes.{listing}
+use Rattle.layout.specs.Sheet.{sheetOf}
+use Rattle.layout.proofs.Example.{sheetA}
+use Rattle.blocks.specs.Early.{lengthRight, early}
+use Rattle.header.specs.Header.{zeros, countsRight, tailClear, outsideClear, header}
+use Rattle.records.specs.Variables.{isLetter, isNameByte, allNameBytes, nameRight, sameBytes, variableRight, fresh}
+use Rattle.findings.specs.Findings.{findingOf}
+use Rattle.order.specs.Order.{placed}
+use Rattle.nodes.specs.Nodes.{typed, nodeRefusal, nodes}
+use Rattle.reading.specs.Cascade.{refusalOf}
+use Rattle.wording.specs.Words.{wordOf}
+use Rattle.wording.specs.Sixteen.{hexDigit, hexText, literal, symbolText}
+use Rattle.wording.specs.Script.{joined, script}
+use Rattle.answers.specs.declared.Request.{Request}
+use Rattle.answers.specs.declared.Request.the-variants.{Read, Script, Check, Tally}
+use Rattle.answers.specs.Answers.{decimalIn, decimal, signed, numbersLine, refusalLine, answered, setting, settings, checkLine, answerText}
+
+-- ---- numbers
+pub numbers : map signed (pos 0 ∷ pos 9 ∷ pos 10 ∷ pos 65535 ∷ negsuc 0 ∷ negsuc 32767 ∷ []) ≡ ascii "0" ∷ ascii "9" ∷ ascii "10" ∷ ascii "65535" ∷ ascii "-1" ∷ ascii "-32768" ∷ []
+unfolding decimalIn decimal signed
+numbers = refl
+
+pub negative : setting (ascii "x") (negsuc 32767) ≡ ascii " x=-32768"
+unfolding decimalIn decimal signed setting
+negative = refl
+
+-- ---- answers: a request, the sheet and the text
+abbrev Row : Type 0
+Row = Request × List ℕ × List ℕ
+
+-- no variables and a goal that is true: edition 1, one node of kind 1, and the checks
+abbrev always : List ℕ
+always = (1 ∷ 0 ∷ 1 ∷ []) ++ (replicate 507 0 ++ (5 ∷ 0 ∷ 1 ∷ (replicate 509 0 ++ (3 ∷ 0 ∷ []))))
+
+abbrev table : List Row
+table =
+    (Read, sheetA, ascii "accepted\n")
+    ∷ (Script, always, ascii "(set-logic QF_UFBV)\n(assert (not true))\n(check-sat)\n(exit)\n")
+    ∷ (Check, sheetA, ascii "fails seated=0 trained=1\n")
+    ∷ (Check, always, ascii "holds\n")
+    ∷ (Tally, sheetA, ascii "held 2 failed 2\n")
+    ∷ (Read, [], ascii "refused 1 at 0\n")
+    ∷ (Script, [], ascii "refused 1 at 0\n")
+    ∷ (Check, [], ascii "refused 1 at 0\n")
+    ∷ (Tally, [], ascii "refused 1 at 0\n")
+    ∷ []
+
+pub answers : map (λ (r : Row). answerText (r .0) (r .1)) table ≡ map (λ (r : Row). r .2) table
+unfolding value sizeOf casesOf holds failures firstFailure held failed treeAt allBelow below course first enc dec isNarrow hasNarrowEnds leastOf greatestOf find kindOf by-rows weighted checkOf sealed blockRight startAt ofTree ofNode listing sheetOf lengthRight early zeros countsRight tailClear outsideClear header isLetter isNameByte allNameBytes nameRight sameBytes variableRight fresh findingOf placed typed nodeRefusal nodes refusalOf wordOf hexDigit hexText literal symbolText joined script decimalIn decimal signed numbersLine refusalLine answered setting settings checkLine answerText
+answers = refl
