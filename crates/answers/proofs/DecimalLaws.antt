@@ -75,9 +75,9 @@ short-in (suc k) (suc f) n h =
     ]
 
 -- a number of 64 bits has at most 20 digits, one of 16 at most 5
-pub decimal-20 : (n : ℕ) → Fits w64 n → length (decimal n) ≤ 20
+pub decimal-20 : {n : ℕ} → Fits w64 n → length (decimal n) ≤ 20
 unfolding decimal
-decimal-20 n f =
+decimal-20 {n} f =
     let h : n < 18446744073709551616 = f .fits in
     short-in 19 (suc n) n (omega arith)
 

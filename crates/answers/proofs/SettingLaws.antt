@@ -14,7 +14,7 @@ use Rattle.lists.specs.Places.{at, from}
 use Rattle.lists.proofs.RunLaws.{stands-from, run-part}
 use Rattle.numbers.specs.Ranges.{Narrow}
 use Rattle.numbers.proofs.Fit.{i16-of-narrow}
-use Rattle.layout.specs.Limits.{mostVariables, mostNameBytes, variablePlace, nameStart}
+use Rattle.layout.specs.Limits.{mostVariables, variablePlace, nameStart}
 use Rattle.layout.specs.Parts.{variableCount, variableAt, nameSize, nameIn, ruleIn}
 use Rattle.reading.specs.Cascade.{refusalOf}
 use Rattle.reading.proofs.RuleLaws.{accepted-counted, accepted-kept}
@@ -22,7 +22,7 @@ use Rattle.room.specs.Room.{Wrote, texts}
 use Rattle.room.proofs.RoomLaws.{wrote-as, chain}
 use Rattle.room.proofs.TextLaws.{texts-more, wrote-no-texts}
 use Rattle.answers.specs.Answers.{signed, setting, settings}
-use Rattle.answers.specs.Pieces.{settingAt, settingsAt, failsLine}
+use Rattle.answers.specs.Pieces.{Named, settingAt, settingsAt, failsLine}
 use Rattle.answers.proofs.SignedLaws.{kept-is}
 
 -- ---- a variable's name in an accepted sheet
@@ -39,19 +39,16 @@ module _ (s : List ℕ) (e : refusalOf s ≡ none) where
         let f = c .few in
         omega arith
 
-    module _ {t : List ℕ} (et : t ≡ take (nameSize s p) (drop (p + 6) s)) where
-      pub name-is : t ≡ variableAt s i .name
-      name-is = et ∙ ap (nameIn s) ep
+    pub named : {t : List ℕ} → t ≡ take (nameSize s p) (drop (p + 6) s) → Named s i t
+    named et =
+        let k = accepted-kept s e i h .0 .short in
+        let m : length (nameIn s (variablePlace i)) ≡ min (nameSize s (variablePlace i)) (length (drop (variablePlace i + 6) s)) = length-take _ _ in
+        let q = et ∙ ap (nameIn s) ep in
+        record { name = q; short = rw q (omega arith) }
 
-      pub name-short : length t ≤ mostNameBytes
-      name-short =
-          let k = accepted-kept s e i h .0 .short in
-          let m : length (nameIn s (variablePlace i)) ≡ min (nameSize s (variablePlace i)) (length (drop (variablePlace i + 6) s)) = length-take _ _ in
-          rw name-is (omega arith)
-
-      pub setting-from : {z : ℤ} → SFits w16 z → ascii " " ++ t ++ ascii "=" ++ signed (toZ w16 (ofZ w16 z)) ≡ setting (variableAt s i .name) z
-      unfolding setting
-      setting-from f = rw (name-is, kept-is f)
+pub setting-from : {s t : List ℕ} {i : ℕ} {z : ℤ} → Named s i t → SFits w16 z → ascii " " ++ t ++ ascii "=" ++ signed (toZ w16 (ofZ w16 z)) ≡ setting (variableAt s i .name) z
+unfolding setting
+setting-from n f = rw (n .name, kept-is f)
 
 -- ---- one variable more
 pub begin : (s : List ℕ) (row : List ℤ) (room : List ℕ) (at : ℕ) → Wrote (settingsAt s row 0) room room at at

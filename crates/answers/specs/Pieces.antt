@@ -1,16 +1,22 @@
 -- The pieces of a failing check's line, by the numbers of the variables, and what is asked of the row of values.
-use Prim.Native.Nat.{ℕ, _<_}
+use Prim.Native.Nat.{ℕ, _≤_, _<_}
 use mathlib.Core.Path.{_≡_}
 use mathlib.Core.List.{List, _++_}
 use mathlib.Core.Option.{none}
 use lib.IntN.{ℤ, pos}
-use lib.ListN.{getD}
+use lib.ListN.{length, getD}
 use Rattle.lists.specs.Ascii.{ascii}
 use Rattle.numbers.specs.Ranges.{Narrow}
+use Rattle.layout.specs.Limits.{mostNameBytes}
 use Rattle.layout.specs.Parts.{variableCount, variableAt}
 use Rattle.reading.specs.Cascade.{refusalOf}
 use Rattle.room.specs.Room.{texts}
 use Rattle.answers.specs.Answers.{setting}
+
+-- the bytes are variable i's name, at most 16 of them
+pub record Named (s : List ℕ) (i : ℕ) (t : List ℕ) : Type 0 where
+  pub name : t ≡ variableAt s i .name
+  pub short : length t ≤ mostNameBytes
 
 -- the sheet is accepted, and the row's values of its variables have 16 bits
 pub record Settled (s : List ℕ) (row : List ℤ) : Type 0 where

@@ -11,7 +11,7 @@ ghost use Rattle.room.specs.Room.{Wrote};
 ghost use Rattle.writer.specs.Writes.{enoughRoom};
 ghost use Rattle.answers.specs.Answers.{decimal, signed, numbersLine, refusalLine, setting, answerText};
 ghost use Rattle.answers.specs.declared.Request.the-variants.{Read, Script, Check, Tally};
-ghost use Rattle.answers.specs.Pieces.{Settled, settingsAt, failsLine};
+ghost use Rattle.answers.specs.Pieces.{Named, Settled, settingsAt, failsLine};
 use cases::Checked;
 use numbers::Refusal;
 use numbers::VariableNumber;
@@ -87,12 +87,20 @@ fn refused_line(room: &mut [u8], refusal: Refusal) -> usize
     )
 }
 
+// A variable's name in an accepted sheet.
+fn name_of(sheet: &[u8], n: VariableNumber) -> &[u8]
+    requires { ⌜ (refusalOf (now sheet) ≡ none) × (n .0 < variableCount (now sheet)) ⌝ }
+    ensures { λ r. ⌜ Named (now (sheet .entry)) (n .0) (now r) ⌝ }
+{
+    records::name_in(sheet, records::variable_place(n))
+}
+
 // A variable's name and its value.
 fn put_setting(sheet: &[u8], n: VariableNumber, z: i16, room: &mut [u8], at: usize) -> usize
     requires { ⌜ (refusalOf (now sheet) ≡ none) × (n .0 < variableCount (now sheet)) × (at + 24 ≤ length (now room)) ⌝ }
     ensures { λ r. ⌜ Wrote (setting (variableAt (now (sheet .entry)) (n .0) .name) z) (now (room .entry)) (now (room .exit)) at r × (r ≤ at + 24) ⌝ }
 {
-    let name = records::name_in(sheet, records::variable_place(n));
+    let name = name_of(sheet, n);
     let p = room::put(room, at, b" ");
     let q = room::put(room, p, name);
     let r = room::put(room, q, b"=");
@@ -124,6 +132,7 @@ fn fails_line(sheet: &[u8], row: &[i16; 16], room: &mut [u8]) -> usize
     room::put(room, q, b"\n")
 }
 
+// Accepted, or the refusal.
 fn read_answer(sheet: &[u8], room: &mut [u8]) -> usize
     requires { ⌜ enoughRoom ≤ length (now room) ⌝ }
     ensures { λ r. ⌜ Wrote (answerText Read (now (sheet .entry))) (now (room .entry)) (now (room .exit)) 0 r ⌝ }
@@ -134,6 +143,7 @@ fn read_answer(sheet: &[u8], room: &mut [u8]) -> usize
     }
 }
 
+// The script, or the refusal; no script is longer than the room.
 fn script_answer(sheet: &[u8], room: &mut [u8]) -> usize
     requires { ⌜ enoughRoom ≤ length (now room) ⌝ }
     ensures { λ r. ⌜ Wrote (answerText Script (now (sheet .entry))) (now (room .entry)) (now (room .exit)) 0 r ⌝ }
@@ -144,7 +154,7 @@ fn script_answer(sheet: &[u8], room: &mut [u8]) -> usize
     }
 }
 
-// A sheet has at most 16 variables, so the check is never refused for want of room.
+// Holds, or fails with the first failing case, or the refusal; a sheet has at most 16 variables.
 fn check_answer(sheet: &[u8], room: &mut [u8]) -> usize
     requires { ⌜ enoughRoom ≤ length (now room) ⌝ }
     ensures { λ r. ⌜ Wrote (answerText Check (now (sheet .entry))) (now (room .entry)) (now (room .exit)) 0 r ⌝ }
@@ -157,6 +167,7 @@ fn check_answer(sheet: &[u8], room: &mut [u8]) -> usize
     }
 }
 
+// How many cases held and failed, or the refusal.
 fn tally_answer(sheet: &[u8], room: &mut [u8]) -> usize
     requires { ⌜ enoughRoom ≤ length (now room) ⌝ }
     ensures { λ r. ⌜ Wrote (answerText Tally (now (sheet .entry))) (now (room .entry)) (now (room .exit)) 0 r ⌝ }

@@ -1,4 +1,4 @@
--- What the program's first word asks for.
+-- How much of an input the program reads, and what its first word asks for.
 use Prim.Native.Nat.{ℕ}
 use mathlib.Core.Bool.{Bool, true, false}
 use mathlib.Core.List.{List}
@@ -8,6 +8,10 @@ use Rattle.answers.specs.declared.Request.{Request}
 use Rattle.answers.specs.declared.Request.the-variants.{Read, Script, Check, Tally}
 use Rattle.ragwashin.specs.declared.Word.{Word}
 use Rattle.ragwashin.specs.declared.Word.the-variants.{Asks, Help, Unknown}
+
+-- the most bytes of an input that are read: a longer one is no sheet
+abbrev pub mostRead : ℕ
+mostRead = 4609
 
 -- this where it is meant, or else the other
 abbrev pub meant : Bool → Word → Word → Word

@@ -1,7 +1,8 @@
 // Answers requests about sheets, in files or on standard input; with no word it writes the script.
 ghost use mathlib.Core.Path.{_≡_};
+ghost use mathlib.Core.Bool.{true};
 ghost use Rattle.records.specs.Variables.{sameBytes};
-ghost use Rattle.ragwashin.specs.Words.{meant, wordOf, isLine};
+ghost use Rattle.ragwashin.specs.Words.{mostRead, meant, wordOf, isLine};
 use answers::Request;
 use libc::STDERR_FILENO;
 use libc::STDIN_FILENO;
@@ -78,7 +79,7 @@ fn say_failed(name: &[u8], what: &[u8]) {
 }
 
 // An argument that is too long for any file's name is told by its place.
-fn say_unheld(place: usize) {
+fn say_too_long(place: usize) {
     io::write_all(STDERR_FILENO, b"ragwashin: argument ");
     io::print_decimal(STDERR_FILENO, place as u64);
     os::fail(b"");
@@ -111,7 +112,9 @@ fn write_line(name: &[u8], is_named: bool, text: &[u8]) -> bool {
 }
 
 // Only a read that answers 0 tells that an input has ended, and not that a read of it failed.
-fn has_ended(fd: i32, size: usize) -> bool {
+fn has_ended(fd: i32, size: usize) -> bool
+    ensures { λ r. ⌜ (size ≡ mostRead → r ≡ true) ⌝ }
+{
     if size == MOST_READ {
         return true;
     }
@@ -139,7 +142,7 @@ fn answer_file(request: Request, place: usize, is_named: bool) {
     let mut path = io::buffer();
     let size = os::arg(place, &mut path);
     if os::errno() != 0 {
-        say_unheld(place);
+        say_too_long(place);
         return;
     }
     let fd = os::open_read(&path[..size]);
@@ -175,7 +178,7 @@ fn help() {
         STDOUT_FILENO,
         b"usage: ragwashin [WORD [FILE ...]]
 
-Answers each FILE, a rule sheet, in a line; standard input where none is named.
+Answers about each FILE, a rule sheet; about standard input where none is named.
 
   read    accepted
   check   holds, or fails NAME=VALUE ...: the first failing case
@@ -205,7 +208,7 @@ fn main() {
     let mut text = io::buffer();
     let size = os::arg(1, &mut text);
     if os::errno() != 0 {
-        say_unheld(1);
+        say_too_long(1);
         return;
     }
     let word = word_of(&text[..size]);

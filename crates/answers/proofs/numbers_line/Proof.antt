@@ -8,20 +8,32 @@ use Rattle.answers.proofs.numbers_line.Statement.{statement}
 use Rattle.answers.proofs.numbers_line.Tie as tie
 
 put-decimal-requires : tie.Need-put-decimal-requires
-put-decimal-requires c κs = omega (arith, decimal-20 (c .before .before .before .before .before .before .before .before .args .m) (c .before .before .before .before .before .before .before .before .fits .m), decimal-20 (c .before .before .before .before .before .before .before .before .args .n) (c .before .before .before .before .before .before .before .before .fits .n))
+put-decimal-requires c κs =
+    let s = c .before .before .before .before .before .before .before .before in
+    omega (arith, decimal-20 (s .fits .m), decimal-20 (s .fits .n))
 
 put-requires-2 : tie.Need-put-requires-2
-put-requires-2 c κs = omega (arith, decimal-20 (c .before .before .before .before .before .before .before .before .before .before .before .before .args .m) (c .before .before .before .before .before .before .before .before .before .before .before .before .fits .m), decimal-20 (c .before .before .before .before .before .before .before .before .before .before .before .before .args .n) (c .before .before .before .before .before .before .before .before .before .before .before .before .fits .n))
+put-requires-2 c κs =
+    let s = c .before .before .before .before .before .before .before .before .before .before .before .before in
+    omega (arith, decimal-20 (s .fits .m), decimal-20 (s .fits .n))
 
 put-decimal-requires-2 : tie.Need-put-decimal-requires-2
-put-decimal-requires-2 c κs = omega (arith, decimal-20 (c .before .before .before .before .before .before .before .before .before .before .before .before .before .before .before .before .args .m) (c .before .before .before .before .before .before .before .before .before .before .before .before .before .before .before .before .fits .m), decimal-20 (c .before .before .before .before .before .before .before .before .before .before .before .before .before .before .before .before .args .n) (c .before .before .before .before .before .before .before .before .before .before .before .before .before .before .before .before .fits .n))
+put-decimal-requires-2 c κs =
+    let s = c .before .before .before .before .before .before .before .before .before .before .before .before .before .before .before .before in
+    omega (arith, decimal-20 (s .fits .m), decimal-20 (s .fits .n))
 
 put-requires-3 : tie.Need-put-requires-3
-put-requires-3 c κs = omega (arith, decimal-20 (c .before .before .before .before .before .before .before .before .before .before .before .before .before .before .before .before .before .before .before .before .before .args .m) (c .before .before .before .before .before .before .before .before .before .before .before .before .before .before .before .before .before .before .before .before .before .fits .m), decimal-20 (c .before .before .before .before .before .before .before .before .before .before .before .before .before .before .before .before .before .before .before .before .before .args .n) (c .before .before .before .before .before .before .before .before .before .before .before .before .before .before .before .before .before .before .before .before .before .fits .n))
+put-requires-3 c κs =
+    let s = c .before .before .before .before .before .before .before .before .before .before .before .before .before .before .before .before .before .before .before .before .before in
+    omega (arith, decimal-20 (s .fits .m), decimal-20 (s .fits .n))
 
 returns : tie.Need-returns
 unfolding numbersLine
-returns c = chain5 (omega (arith, decimal-20 (c .before .before .before .before .before .before .before .before .before .before .before .before .before .before .before .before .before .before .before .before .before .before .before .before .args .m) (c .before .before .before .before .before .before .before .before .before .before .before .before .before .before .before .before .before .before .before .before .before .before .before .before .fits .m), decimal-20 (c .before .before .before .before .before .before .before .before .before .before .before .before .before .before .before .before .before .before .before .before .before .before .before .before .args .n) (c .before .before .before .before .before .before .before .before .before .before .before .before .before .before .before .before .before .before .before .before .before .before .before .before .fits .n))) (c .before .before .before .before .before .before .before .before .before .before .before .before .before .before .before .before .before .before .before .put .ensures) (c .before .before .before .before .before .before .before .before .before .before .before .before .before .before .before .put-decimal .ensures) (c .before .before .before .before .before .before .before .before .before .before .before .put2 .ensures) (c .before .before .before .before .before .before .before .put-decimal2 .ensures) (c .before .before .put3 .ensures)
+returns c =
+    let s = c .before .before .before .before .before .before .before .before .before .before .before .before .before .before .before .before .before .before .before .before .before .before .before .before in
+    let p = c .before .before .before .before .before .before .before .before .before .before .before in
+    let q = p .before .before .before .before in
+    chain5 (omega (arith, decimal-20 (s .fits .m), decimal-20 (s .fits .n))) (q .before .before .before .before .put .ensures) (q .put-decimal .ensures) (p .put2 .ensures) (c .before .before .before .before .before .before .before .put-decimal2 .ensures) (c .before .before .put3 .ensures)
 
 pub numbers-line-spec : {M : Type 1} → statement M
 numbers-line-spec =

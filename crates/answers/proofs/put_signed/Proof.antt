@@ -13,7 +13,11 @@ put-decimal-requires : tie.Need-put-decimal-requires
 put-decimal-requires c κs = omega (arith, minus-length (c .before .before .before .before .before .before .before .before .before .fits .z) (c .before .before .before .before .before .before .before .magnitude .ensures) (c .before .before .before .before .before .before .if1 .taken))
 
 returns : tie.Need-returns
-returns c = wrote-as (chain (omega (arith, minus-length (c .before .before .before .before .before .before .before .before .before .before .before .before .fits .z) (c .before .before .before .before .before .before .before .before .before .before .magnitude .ensures) (c .before .before .before .before .before .before .before .before .before .if1 .taken))) (c .before .before .before .before .before .before .put .ensures) (c .before .before .put-decimal .ensures)) (minus-text (c .before .before .before .before .before .before .before .before .before .before .before .before .fits .z) (c .before .before .before .before .before .before .before .before .before .before .magnitude .ensures) (c .before .before .before .before .before .before .before .before .before .if1 .taken))
+returns c =
+    let t = c .before .before .before .before .before .before .before .before .before in
+    let m = t .before in
+    let f = m .before .before .fits .z in
+    wrote-as (chain (omega (arith, minus-length f (m .magnitude .ensures) (t .if1 .taken))) (c .before .before .before .before .before .before .put .ensures) (c .before .before .put-decimal .ensures)) (minus-text f (m .magnitude .ensures) (t .if1 .taken))
 
 put-decimal-requires-2 : tie.Need-put-decimal-requires-2
 put-decimal-requires-2 c κs = omega (arith, plain-length (c .before .before .before .before .fits .z) (c .before .before .magnitude .ensures) (c .before .if1 .left))
