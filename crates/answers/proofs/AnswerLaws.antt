@@ -3,7 +3,7 @@ use Prim.Native.Nat.{ℕ, _+_, _≤_}
 use mathlib.Core.Path.{_≡_, refl, sym, ap, _∙_}
 use mathlib.Core.Bool.{Bool, true, false, true≢false}
 use mathlib.Core.List.{List, _++_}
-use mathlib.Core.Option.{Option, none, some}
+use mathlib.Core.Option.{Option, none, some, Option·none-ne-some, Option·some-ne-none}
 use native.Mathlib.Nat.{zero-add}
 use native.Mathlib.Omega.{arith}
 use lib.IntN.{ℤ, pos}
@@ -57,6 +57,9 @@ unfolding over within
 at-front e g = record { place = e ∙ sym (zero-add _); room = g ∙ rw zero-add }
 
 -- ---- refused or not
+abbrev refusalIn : {A : Type 0} → Option Refusal × A → Option Refusal
+refusalIn x = x .0
+
 told : {o : Option Refusal} {t : List ℕ} → o ≡ none → t ≡ answered o t
 unfolding answered
 told e = rw e
@@ -99,15 +102,15 @@ module _ (s : List ℕ) where
       where
         go : (o : Option Refusal) → refusalOf s ≡ o → (none, n) ≡ scriptVerdict o (script (ruleIn s)) → after ≡ scriptRoom o (script (ruleIn s)) before → Wrote (answered (refusalOf s) (script (ruleIn s))) before after 0 n
         go none e p g = wrote-as (at-front (ap (λ (x : Option Refusal × ℕ). x .1) p) g) (told e)
-        go (some r) e p g = absurd (let z : _≡_ {A = ℕ} 0 1 = cc (ap (λ (x : Option Refusal × ℕ). x .0) p) in omega arith)
+        go (some r) e p g = absurd (Option·none-ne-some r (ap refusalIn p))
 
     pub script-refused : {r : Refusal} → a ≡ writeRefused r → (after ≡ before) × (refusalLine r ≡ answerText Script s)
     unfolding answerText
     script-refused {r} d = go (refusalOf s) refl (sym (ap writtenSaid d) ∙ w .answer ∙ rw script-refusal) (w .room ∙ rw script-refusal)
       where
         go : (o : Option Refusal) → refusalOf s ≡ o → (some r, 0) ≡ scriptVerdict o (script (ruleIn s)) → after ≡ scriptRoom o (script (ruleIn s)) before → (after ≡ before) × (refusalLine r ≡ answered (refusalOf s) (script (ruleIn s)))
-        go none e p g = absurd (let z : _≡_ {A = ℕ} 0 1 = cc (ap (λ (x : Option Refusal × ℕ). x .0) p) in omega arith)
-        go (some q) e p g = (g, refused _ (e ∙ sym (ap (λ (x : Option Refusal × ℕ). x .0) p)))
+        go none e p g = absurd (Option·some-ne-none r (ap refusalIn p))
+        go (some q) e p g = (g, refused _ (e ∙ sym (ap refusalIn p)))
 
   -- ---- the check: a row of 16 numbers is always enough
   case-length : {c : List ℤ} → firstFailure (ruleIn s) ≡ some c → length c ≡ variableCount s
@@ -134,8 +137,8 @@ module _ (s : List ℕ) where
     check-refused {r} d = go (tryRefusal s) (firstFailure (ruleIn s)) refl (said d)
       where
         go : (o : Option Refusal) (f : Option (List ℤ)) → tryRefusal s ≡ o → (some r, false) ≡ verdict o f → refusalLine r ≡ answered (tryRefusal s) (checkLine (ruleIn s) (firstFailure (ruleIn s)))
-        go none f e p = absurd (let z : _≡_ {A = ℕ} 0 1 = cc (ap (λ (x : Option Refusal × Bool). x .0) p) in omega arith)
-        go (some q) f e p = refused _ (e ∙ sym (ap (λ (x : Option Refusal × Bool). x .0) p))
+        go none f e p = absurd (Option·some-ne-none r (ap refusalIn p))
+        go (some q) f e p = refused _ (e ∙ sym (ap refusalIn p))
 
     pub check-holds : a ≡ Holds → ascii "holds\n" ≡ answerText Check s
     unfolding answerText checkLine
@@ -144,7 +147,7 @@ module _ (s : List ℕ) where
         go : (o : Option Refusal) (f : Option (List ℤ)) → tryRefusal s ≡ o → firstFailure (ruleIn s) ≡ f → (none, false) ≡ verdict o f → ascii "holds\n" ≡ answered (tryRefusal s) (checkLine (ruleIn s) (firstFailure (ruleIn s)))
         go none none e q p = ap (checkLine (ruleIn s)) (sym q) ∙ told e
         go none (some c) e q p = absurd (true≢false (sym (ap (λ (x : Option Refusal × Bool). x .1) p)))
-        go (some r) f e q p = absurd (let z : _≡_ {A = ℕ} 0 1 = cc (ap (λ (x : Option Refusal × Bool). x .0) p) in omega arith)
+        go (some r) f e q p = absurd (Option·none-ne-some r (ap refusalIn p))
 
     -- the first failing case, where the check fails
     record Found : Type 0 where
@@ -158,7 +161,7 @@ module _ (s : List ℕ) where
         go : (o : Option Refusal) (f : Option (List ℤ)) → tryRefusal s ≡ o → firstFailure (ruleIn s) ≡ f → (none, true) ≡ verdict o f → Found
         go none none e q p = absurd (true≢false (ap (λ (x : Option Refusal × Bool). x .1) p))
         go none (some c) e q p = record { case = c; tried = e; first = q }
-        go (some r) f e q p = absurd (let z : _≡_ {A = ℕ} 0 1 = cc (ap (λ (x : Option Refusal × Bool). x .0) p) in omega arith)
+        go (some r) f e q p = absurd (Option·none-ne-some r (ap refusalIn p))
 
     module _ (d : a ≡ Fails) where
       case-is : take (variableCount s) after ≡ found d .case

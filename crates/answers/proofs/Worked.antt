@@ -55,10 +55,11 @@ always = (1 ∷ 0 ∷ 1 ∷ []) ++ (replicate 507 0 ++ (5 ∷ 0 ∷ 1 ∷ (repli
 abbrev table : List Row
 table =
     (Read, sheetA, ascii "accepted\n")
-    ∷ (Script, always, ascii "(set-logic QF_UFBV)\n(assert (not true))\n(check-sat)\n(exit)\n")
+    ∷ (Script, sheetA, ascii "(set-logic QF_UFBV)\n(declare-fun v0 () (_ BitVec 16))\n(declare-fun v1 () (_ BitVec 16))\n(assert (and (bvsle #x0000 v0) (bvsle v0 #x0001)))\n(assert (and (bvsle #x0000 v1) (bvsle v1 #x0001)))\n(assert (not (= v0 v1)))\n(check-sat)\n(exit)\n")
     ∷ (Check, sheetA, ascii "fails seated=0 trained=1\n")
     ∷ (Check, always, ascii "holds\n")
     ∷ (Tally, sheetA, ascii "held 2 failed 2\n")
+    ∷ (Tally, always, ascii "held 1 failed 0\n")
     ∷ (Read, [], ascii "refused 1 at 0\n")
     ∷ (Script, [], ascii "refused 1 at 0\n")
     ∷ (Check, [], ascii "refused 1 at 0\n")

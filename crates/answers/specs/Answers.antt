@@ -58,6 +58,7 @@ unfoldable pub checkLine : Rule → Option (List ℤ) → List ℕ
 checkLine r none = ascii "holds\n"
 checkLine r (some c) = ascii "fails" ++ settings (r .variables) c ++ ascii "\n"
 
+-- the answer to a request about the sheet s
 unfoldable pub answerText : Request → List ℕ → List ℕ
 answerText Read s = answered (refusalOf s) (ascii "accepted\n")
 answerText Script s = answered (refusalOf s) (script (ruleIn s))

@@ -2,8 +2,8 @@
 use native.Mathlib.Omega.{arith}
 use borrow.Author.Needs.{needs}
 use Rattle.room.proofs.RoomLaws.{wrote-as, chain3}
-use Rattle.answers.proofs.SettingLaws.{fails-from}
 use Rattle.writer.proofs.ScriptLaws.{first-block}
+use Rattle.answers.proofs.SettingLaws.{fails-from}
 use Rattle.answers.proofs.fails_line.Statement.{statement}
 use Rattle.answers.proofs.fails_line.Tie as tie
 
@@ -17,7 +17,9 @@ put-requires-2 : tie.Need-put-requires-2
 put-requires-2 c κs = omega arith
 
 returns : tie.Need-returns
-returns c = wrote-as (chain3 (omega (arith, c .before .before .before .before .before .before .before .before .before .before .before .put .ensures .place, c .before .before .before .before .before .before .before .put-settings .ensures .0 .place)) (c .before .before .before .before .before .before .before .before .before .before .before .put .ensures) (c .before .before .before .before .before .before .before .put-settings .ensures .0) (c .before .before .put2 .ensures)) (fails-from _ _ (c .before .before .before .before .before .before .before .before .before .before .before .before .before .before .variable-count .ensures))
+returns c =
+    let w = chain3 (omega (arith, c .before .before .before .before .before .before .before .put-settings .ensures .0 .place)) (c .before .before .before .before .before .before .before .before .before .before .before .put .ensures) (c .before .before .before .before .before .before .before .put-settings .ensures .0) (c .before .before .put2 .ensures) in
+    wrote-as w (fails-from _ _ (c .before .before .before .before .before .before .before .before .before .before .before .before .before .before .variable-count .ensures))
 
 pub fails-line-spec : {M : Type 1} → statement M
 fails-line-spec =

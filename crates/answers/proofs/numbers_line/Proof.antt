@@ -2,8 +2,8 @@
 use native.Mathlib.Omega.{arith}
 use borrow.Author.Needs.{needs}
 use Rattle.room.proofs.RoomLaws.{chain5}
-use Rattle.answers.proofs.DecimalLaws.{decimal-20}
 use Rattle.answers.specs.Answers.{numbersLine}
+use Rattle.answers.proofs.DecimalLaws.{decimal-20}
 use Rattle.answers.proofs.numbers_line.Statement.{statement}
 use Rattle.answers.proofs.numbers_line.Tie as tie
 

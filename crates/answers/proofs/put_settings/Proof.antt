@@ -3,10 +3,10 @@ use Prim.Native.Nat.{_+_, _-_, _*_, _≤_}
 use mathlib.Core.Path.{_≡_, ap}
 use native.Mathlib.Omega.{arith}
 use lib.ListN.{length}
-use Rattle.room.proofs.RoomLaws.{wrote-as}
-use Rattle.answers.proofs.SettingLaws.{few-variables, begin, turn}
 use Rattle.room.specs.Room.{Wrote}
+use Rattle.room.proofs.RoomLaws.{wrote-as}
 use Rattle.answers.specs.Pieces.{settingsAt}
+use Rattle.answers.proofs.SettingLaws.{few-variables, begin, turn}
 use Rattle.answers.proofs.put_settings.Statement.{statement}
 use Rattle.answers.proofs.put_settings.Tie as tie
 
