@@ -42,7 +42,7 @@ use Rattle.answers.specs.Answers.{numbersLine, refusalLine, answered, ch
 use Rattle.answers.specs.Pieces.{Settled, failsLine}
 use Rattle.answers.specs.declared.Request.{Request}
 use Rattle.answers.specs.declared.Request.the-variants.{Read, Script, Check, Tally}
-use Rattle.answers.proofs.SettingLaws.{settings-are}
+use Rattle.answers.proofs.NameValueLaws.{nameValues-are}
 
 -- ---- a text at the room's front: its bytes are counted
 pub counted : {t before after : List ℕ} {r : ℕ} → Wrote t before after 0 r → Counts r after
@@ -183,7 +183,7 @@ module _ (s : List ℕ) where
       unfolding answerText checkLine failsLine
       check-fails =
           let k = found d in
-          ap (λ (l : List ℕ). ascii "fails" ++ l ++ ascii "\n") (settings-are s after case-is (case-length (k .first))) ∙ ap (checkLine (ruleIn s)) (sym (k .first)) ∙ told (k .tried)
+          ap (λ (l : List ℕ). ascii "fails" ++ l ++ ascii "\n") (nameValues-are s after case-is (case-length (k .first))) ∙ ap (checkLine (ruleIn s)) (sym (k .first)) ∙ told (k .tried)
 
   -- ---- the tally
   module _ {t : Tallied} (w : Tallies s t) where

@@ -1,6 +1,6 @@
 pub mod DecimalLaws
 pub mod SignedLaws
-pub mod SettingLaws
+pub mod NameValueLaws
 pub mod AnswerLaws
 pub mod Unique
 pub mod Worked

@@ -33,15 +33,15 @@ use Rattle.wording.specs.Sixteen.{hexDigit, hexText, literal, symbolText}
 use Rattle.wording.specs.Script.{joined, script}
 use Rattle.answers.specs.declared.Request.{Request}
 use Rattle.answers.specs.declared.Request.the-variants.{Read, Script, Check, Tally}
-use Rattle.answers.specs.Answers.{decimalIn, decimal, signed, numbersLine, refusalLine, answered, setting, settings, checkLine, answerText}
+use Rattle.answers.specs.Answers.{decimalIn, decimal, signed, numbersLine, refusalLine, answered, nameValue, nameValues, checkLine, answerText}
 
 -- ---- numbers
 pub numbers : map signed (pos 0 ∷ pos 9 ∷ pos 10 ∷ pos 65535 ∷ negsuc 0 ∷ negsuc 32767 ∷ []) ≡ ascii "0" ∷ ascii "9" ∷ ascii "10" ∷ ascii "65535" ∷ ascii "-1" ∷ ascii "-32768" ∷ []
 unfolding decimalIn decimal signed
 numbers = refl
 
-pub negative : setting (ascii "x") (negsuc 32767) ≡ ascii " x=-32768"
-unfolding decimalIn decimal signed setting
+pub negative : nameValue (ascii "x") (negsuc 32767) ≡ ascii " x=-32768"
+unfolding decimalIn decimal signed nameValue
 negative = refl
 
 -- ---- answers: a request, the sheet and the text
@@ -67,5 +67,5 @@ table =
     ∷ []
 
 pub answers : map (λ (r : Row). answerText (r .0) (r .1)) table ≡ map (λ (r : Row). r .2) table
-unfolding value sizeOf casesOf holds failures firstFailure held failed treeAt allBelow below course first enc dec isNarrow hasNarrowEnds leastOf greatestOf find kindOf by-rows weighted checkOf sealed blockRight startAt ofTree ofNode listing sheetOf lengthRight early zeros countsRight tailClear outsideClear header isLetter isNameByte allNameBytes nameRight sameBytes variableRight fresh findingOf placed typed nodeRefusal nodes refusalOf wordOf hexDigit hexText literal symbolText joined script decimalIn decimal signed numbersLine refusalLine answered setting settings checkLine answerText
+unfolding value sizeOf casesOf holds failures firstFailure held failed treeAt allBelow below course first enc dec isNarrow hasNarrowEnds leastOf greatestOf find kindOf by-rows weighted checkOf sealed blockRight startAt ofTree ofNode listing sheetOf lengthRight early zeros countsRight tailClear outsideClear header isLetter isNameByte allNameBytes nameRight sameBytes variableRight fresh findingOf placed typed nodeRefusal nodes refusalOf wordOf hexDigit hexText literal symbolText joined script decimalIn decimal signed numbersLine refusalLine answered nameValue nameValues checkLine answerText
 answers = refl

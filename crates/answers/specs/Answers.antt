@@ -44,19 +44,19 @@ answered none t = t
 answered (some r) t = refusalLine r
 
 -- a variable's name and its value
-unfoldable pub setting : List ℕ → ℤ → List ℕ
-setting name z = ascii " " ++ name ++ ascii "=" ++ signed z
+unfoldable pub nameValue : List ℕ → ℤ → List ℕ
+nameValue name z = ascii " " ++ name ++ ascii "=" ++ signed z
 
 -- each variable's name and its value in a case
-unfoldable pub settings : List Variable → List ℤ → List ℕ
-settings [] c = []
-settings (v ∷ vs) [] = []
-settings (v ∷ vs) (z ∷ c) = setting (v .name) z ++ settings vs c
+unfoldable pub nameValues : List Variable → List ℤ → List ℕ
+nameValues [] c = []
+nameValues (v ∷ vs) [] = []
+nameValues (v ∷ vs) (z ∷ c) = nameValue (v .name) z ++ nameValues vs c
 
 -- the check's line, by the first failing case
 unfoldable pub checkLine : Rule → Option (List ℤ) → List ℕ
 checkLine r none = ascii "holds\n"
-checkLine r (some c) = ascii "fails" ++ settings (r .variables) c ++ ascii "\n"
+checkLine r (some c) = ascii "fails" ++ nameValues (r .variables) c ++ ascii "\n"
 
 -- the answer to a request about the sheet s
 unfoldable pub answerText : Request → List ℕ → List ℕ

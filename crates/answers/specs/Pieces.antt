@@ -11,7 +11,7 @@ use Rattle.layout.specs.Limits.{mostNameBytes}
 use Rattle.layout.specs.Parts.{variableCount, variableAt}
 use Rattle.reading.specs.Cascade.{refusalOf}
 use Rattle.room.specs.Room.{texts}
-use Rattle.answers.specs.Answers.{setting}
+use Rattle.answers.specs.Answers.{nameValue}
 
 -- the bytes are variable i's name, at most 16 of them
 pub record Named (s : List ℕ) (i : ℕ) (t : List ℕ) : Type 0 where
@@ -24,13 +24,13 @@ pub record Settled (s : List ℕ) (row : List ℤ) : Type 0 where
   pub narrow : (i : ℕ) → i < variableCount s → Narrow (getD row i (pos 0))
 
 -- variable i's name and the row's value for it
-unfoldable pub settingAt : List ℕ → List ℤ → ℕ → List ℕ
-settingAt s row i = setting (variableAt s i .name) (getD row i (pos 0))
+unfoldable pub nameValueAt : List ℕ → List ℤ → ℕ → List ℕ
+nameValueAt s row i = nameValue (variableAt s i .name) (getD row i (pos 0))
 
 -- those of the first n variables
-unfoldable pub settingsAt : List ℕ → List ℤ → ℕ → List ℕ
-settingsAt s row n = texts (settingAt s row) n
+unfoldable pub nameValuesAt : List ℕ → List ℤ → ℕ → List ℕ
+nameValuesAt s row n = texts (nameValueAt s row) n
 
 -- the line of a check that fails with the row's values
 unfoldable pub failsLine : List ℕ → List ℤ → List ℕ
-failsLine s row = ascii "fails" ++ settingsAt s row (variableCount s) ++ ascii "\n"
+failsLine s row = ascii "fails" ++ nameValuesAt s row (variableCount s) ++ ascii "\n"

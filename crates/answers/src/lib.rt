@@ -9,9 +9,9 @@ ghost use Rattle.layout.specs.Parts.{variableCount, variableAt};
 ghost use Rattle.reading.specs.Cascade.{refusalOf};
 ghost use Rattle.room.specs.Room.{Wrote};
 ghost use Rattle.writer.specs.Writes.{enoughRoom};
-ghost use Rattle.answers.specs.Answers.{decimal, signed, numbersLine, refusalLine, setting, answerText};
+ghost use Rattle.answers.specs.Answers.{decimal, signed, numbersLine, refusalLine, nameValue, answerText};
 ghost use Rattle.answers.specs.declared.Request.the-variants.{Read, Script, Check, Tally};
-ghost use Rattle.answers.specs.Pieces.{Named, Settled, settingsAt, failsLine};
+ghost use Rattle.answers.specs.Pieces.{Named, Settled, nameValuesAt, failsLine};
 use cases::Checked;
 use numbers::Refusal;
 use numbers::VariableNumber;
@@ -96,9 +96,9 @@ fn name_of(sheet: &[u8], n: VariableNumber) -> &[u8]
 }
 
 // A variable's name and its value.
-fn put_setting(sheet: &[u8], n: VariableNumber, z: i16, room: &mut [u8], at: usize) -> usize
+fn put_name_value(sheet: &[u8], n: VariableNumber, z: i16, room: &mut [u8], at: usize) -> usize
     requires { ⌜ (refusalOf (now sheet) ≡ none) × (n .0 < variableCount (now sheet)) × (at + 24 ≤ length (now room)) ⌝ }
-    ensures { λ r. ⌜ Wrote (setting (variableAt (now (sheet .entry)) (n .0) .name) z) (now (room .entry)) (now (room .exit)) at r × (r ≤ at + 24) ⌝ }
+    ensures { λ r. ⌜ Wrote (nameValue (variableAt (now (sheet .entry)) (n .0) .name) z) (now (room .entry)) (now (room .exit)) at r × (r ≤ at + 24) ⌝ }
 {
     let name = name_of(sheet, n);
     let p = room::put(room, at, b" ");
@@ -108,14 +108,14 @@ fn put_setting(sheet: &[u8], n: VariableNumber, z: i16, room: &mut [u8], at: usi
 }
 
 // Those of the first variables, by a row of values.
-fn put_settings(sheet: &[u8], row: &[i16; 16], count: usize, room: &mut [u8], at: usize) -> usize
+fn put_name_values(sheet: &[u8], row: &[i16; 16], count: usize, room: &mut [u8], at: usize) -> usize
     requires { ⌜ Settled (now sheet) (now row) × (count ≤ variableCount (now sheet)) × (at + 384 ≤ length (now room)) ⌝ }
-    ensures { λ r. ⌜ Wrote (settingsAt (now (sheet .entry)) (now (row .entry)) count) (now (room .entry)) (now (room .exit)) at r × (r ≤ at + 384) ⌝ }
+    ensures { λ r. ⌜ Wrote (nameValuesAt (now (sheet .entry)) (now (row .entry)) count) (now (room .entry)) (now (room .exit)) at r × (r ≤ at + 384) ⌝ }
 {
     let mut next = at;
     let mut i: usize = 0;
     while i < count {
-        next = put_setting(sheet, VariableNumber(i as u16), row[i], room, next);
+        next = put_name_value(sheet, VariableNumber(i as u16), row[i], room, next);
         i += 1;
     }
     next
@@ -128,7 +128,7 @@ fn fails_line(sheet: &[u8], row: &[i16; 16], room: &mut [u8]) -> usize
 {
     let count = header::variable_count(sheet);
     let p = room::put(room, 0, b"fails");
-    let q = put_settings(sheet, row, count, room, p);
+    let q = put_name_values(sheet, row, count, room, p);
     room::put(room, q, b"\n")
 }
 

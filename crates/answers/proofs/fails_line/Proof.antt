@@ -3,22 +3,22 @@ use native.Mathlib.Omega.{arith}
 use borrow.Author.Needs.{needs}
 use Rattle.room.proofs.RoomLaws.{wrote-as, chain3}
 use Rattle.writer.proofs.ScriptLaws.{first-block}
-use Rattle.answers.proofs.SettingLaws.{fails-from}
+use Rattle.answers.proofs.NameValueLaws.{fails-from}
 use Rattle.answers.proofs.fails_line.Statement.{statement}
 use Rattle.answers.proofs.fails_line.Tie as tie
 
 variable-count-requires : tie.Need-variable-count-requires
 variable-count-requires c κs = first-block _ (c .before .before .pre .0 .accepted)
 
-put-settings-requires : tie.Need-put-settings-requires
-put-settings-requires c κs = (c .before .before .before .before .before .before .before .before .before .pre .0, omega (arith, c .before .before .before .before .before .before .variable-count .ensures), omega arith)
+put-name-values-requires : tie.Need-put-name-values-requires
+put-name-values-requires c κs = (c .before .before .before .before .before .before .before .before .before .pre .0, omega (arith, c .before .before .before .before .before .before .variable-count .ensures), omega arith)
 
 put-requires-2 : tie.Need-put-requires-2
 put-requires-2 c κs = omega arith
 
 returns : tie.Need-returns
 returns c =
-    let w = chain3 (omega (arith, c .before .before .before .before .before .before .before .put-settings .ensures .0 .place)) (c .before .before .before .before .before .before .before .before .before .before .before .put .ensures) (c .before .before .before .before .before .before .before .put-settings .ensures .0) (c .before .before .put2 .ensures) in
+    let w = chain3 (omega (arith, c .before .before .before .before .before .before .before .put-name-values .ensures .0 .place)) (c .before .before .before .before .before .before .before .before .before .before .before .put .ensures) (c .before .before .before .before .before .before .before .put-name-values .ensures .0) (c .before .before .put2 .ensures) in
     wrote-as w (fails-from _ _ (c .before .before .before .before .before .before .before .before .before .before .before .before .before .before .variable-count .ensures))
 
 pub fails-line-spec : {M : Type 1} → statement M
@@ -28,7 +28,7 @@ fails-line-spec =
     variable-count-requires
     (λ c. search needs)
     (λ c κs. search needs)
-    put-settings-requires
+    put-name-values-requires
     (λ c. search needs)
     put-requires-2
     (λ c. search needs)

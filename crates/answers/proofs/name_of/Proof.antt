@@ -1,6 +1,6 @@
 -- `name_of` meets its contract: the name stands in the variable's record. Assumes nothing.
 use borrow.Author.Needs.{needs}
-use Rattle.answers.proofs.SettingLaws.{record-inside, named}
+use Rattle.answers.proofs.NameValueLaws.{record-inside, named}
 use Rattle.answers.proofs.name_of.Statement.{statement}
 use Rattle.answers.proofs.name_of.Tie as tie
 

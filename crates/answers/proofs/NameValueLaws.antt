@@ -21,8 +21,8 @@ use Rattle.reading.proofs.RuleLaws.{accepted-counted, accepted-kept}
 use Rattle.room.specs.Room.{Wrote, texts}
 use Rattle.room.proofs.RoomLaws.{wrote-as, chain}
 use Rattle.room.proofs.TextLaws.{texts-more, wrote-no-texts}
-use Rattle.answers.specs.Answers.{signed, setting, settings}
-use Rattle.answers.specs.Pieces.{Named, settingAt, settingsAt, failsLine}
+use Rattle.answers.specs.Answers.{signed, nameValue, nameValues}
+use Rattle.answers.specs.Pieces.{Named, nameValueAt, nameValuesAt, failsLine}
 use Rattle.answers.proofs.SignedLaws.{kept-is}
 
 -- ---- a variable's name in an accepted sheet
@@ -46,38 +46,38 @@ module _ (s : List ℕ) (e : refusalOf s ≡ none) where
         let q = et ∙ ap (nameIn s) ep in
         record { name = q; short = rw q (omega arith) }
 
-pub setting-from : {s t : List ℕ} {i : ℕ} {z : ℤ} → Named s i t → SFits w16 z → ascii " " ++ t ++ ascii "=" ++ signed (toZ w16 (ofZ w16 z)) ≡ setting (variableAt s i .name) z
-unfolding setting
-setting-from n f = rw (n .name, kept-is f)
+pub name-value-from : {s t : List ℕ} {i : ℕ} {z : ℤ} → Named s i t → SFits w16 z → ascii " " ++ t ++ ascii "=" ++ signed (toZ w16 (ofZ w16 z)) ≡ nameValue (variableAt s i .name) z
+unfolding nameValue
+name-value-from n f = rw (n .name, kept-is f)
 
 -- ---- one variable more
-pub begin : (s : List ℕ) (row : List ℤ) (room : List ℕ) (at : ℕ) → Wrote (settingsAt s row 0) room room at at
-unfolding settingsAt
-begin s row room at = wrote-no-texts (settingAt s row) room at
+pub begin : (s : List ℕ) (row : List ℤ) (room : List ℕ) (at : ℕ) → Wrote (nameValuesAt s row 0) room room at at
+unfolding nameValuesAt
+begin s row room at = wrote-no-texts (nameValueAt s row) room at
 
-pub turn : (s : List ℕ) (row : List ℤ) (i : ℕ) {r₀ r₁ r₂ : List ℕ} {at p q : ℕ} → Narrow (getD row i (pos 0)) → p ≤ length r₀ → Wrote (settingsAt s row i) r₀ r₁ at p → Wrote (setting (variableAt s i .name) (toZ w16 (ofZ w16 (getD row i (pos 0))))) r₁ r₂ p q → Wrote (settingsAt s row (i + 1)) r₀ r₂ at q
-unfolding settingsAt settingAt
-turn s row i n h a b = wrote-as (chain (omega (arith, a .place)) a b) (ap (λ (z : ℤ). texts (settingAt s row) i ++ setting (variableAt s i .name) z) (kept-is (i16-of-narrow n)) ∙ texts-more (settingAt s row) i)
+pub turn : (s : List ℕ) (row : List ℤ) (i : ℕ) {r₀ r₁ r₂ : List ℕ} {at p q : ℕ} → Narrow (getD row i (pos 0)) → p ≤ length r₀ → Wrote (nameValuesAt s row i) r₀ r₁ at p → Wrote (nameValue (variableAt s i .name) (toZ w16 (ofZ w16 (getD row i (pos 0))))) r₁ r₂ p q → Wrote (nameValuesAt s row (i + 1)) r₀ r₂ at q
+unfolding nameValuesAt nameValueAt
+turn s row i n h a b = wrote-as (chain (omega (arith, a .place)) a b) (ap (λ (z : ℤ). texts (nameValueAt s row) i ++ nameValue (variableAt s i .name) z) (kept-is (i16-of-narrow n)) ∙ texts-more (nameValueAt s row) i)
 
-pub fails-from : (s : List ℕ) (row : List ℤ) {n : ℕ} → n ≡ variableCount s → ascii "fails" ++ settingsAt s row n ++ ascii "\n" ≡ failsLine s row
+pub fails-from : (s : List ℕ) (row : List ℤ) {n : ℕ} → n ≡ variableCount s → ascii "fails" ++ nameValuesAt s row n ++ ascii "\n" ≡ failsLine s row
 unfolding failsLine
 fails-from s row e = rw e
 
 -- ---- by their numbers, and as lists
 module _ (s : List ℕ) (row : List ℤ) where
-  listed : (i k : ℕ) → texts (settingAt s row) i ++ settings (from (variableAt s) i k) (from (at (pos 0) row) i k) ≡ texts (settingAt s row) (i + k)
-  unfolding texts settings settingAt
-  listed i zero = append-nil _ ∙ ap (texts (settingAt s row)) (sym (add-zero i))
+  listed : (i k : ℕ) → texts (nameValueAt s row) i ++ nameValues (from (variableAt s) i k) (from (at (pos 0) row) i k) ≡ texts (nameValueAt s row) (i + k)
+  unfolding texts nameValues nameValueAt
+  listed i zero = append-nil _ ∙ ap (texts (nameValueAt s row)) (sym (add-zero i))
   listed i (suc k) =
-      sym (append-assoc (texts (settingAt s row) i) (settingAt s row i) (settings (from (variableAt s) (suc i) k) (from (at (pos 0) row) (suc i) k)))
+      sym (append-assoc (texts (nameValueAt s row) i) (nameValueAt s row i) (nameValues (from (variableAt s) (suc i) k) (from (at (pos 0) row) (suc i) k)))
       ∙ listed (suc i) k
-      ∙ ap (texts (settingAt s row)) (suc-add i k ∙ sym (add-suc i k))
+      ∙ ap (texts (nameValueAt s row)) (suc-add i k ∙ sym (add-suc i k))
 
-  pub settings-are : {c : List ℤ} → take (variableCount s) row ≡ c → length c ≡ variableCount s → settingsAt s row (variableCount s) ≡ settings (ruleIn s .variables) c
-  unfolding settingsAt texts
-  settings-are {c} e n =
+  pub nameValues-are : {c : List ℤ} → take (variableCount s) row ≡ c → length c ≡ variableCount s → nameValuesAt s row (variableCount s) ≡ nameValues (ruleIn s .variables) c
+  unfolding nameValuesAt texts
+  nameValues-are {c} e n =
       let v = variableCount s in
       let h : v ≤ length row = omega (arith, length-take v row, ap length e) in
       let l : length (take v row) ≡ v = ap length e ∙ n in
       let f : from (at (pos 0) row) 0 v ≡ c = ap (from (at (pos 0) row) 0) (sym l) ∙ stands-from (at (pos 0) row) (take v row) 0 (run-part row (pos 0) 0 v (omega arith) .each) ∙ e in
-      ap (texts (settingAt s row)) (sym (zero-add v)) ∙ sym (listed 0 v) ∙ ap (settings (from (variableAt s) 0 v)) f
+      ap (texts (nameValueAt s row)) (sym (zero-add v)) ∙ sym (listed 0 v) ∙ ap (nameValues (from (variableAt s) 0 v)) f
