@@ -109,12 +109,6 @@ impl Asked {
         room.put(script.as_bytes());
         Ok(script.len() as u64)
     }
-
-    /// Whether some case fails, if there are not too many.
-    pub fn fails(&self) -> Result<bool, Refusal> {
-        let rule = self.rule()?;
-        Ok(cases::first_failure(rule, cases::count(rule)?).is_some())
-    }
 }
 
 /// What the program writes about an input when asked with this word.

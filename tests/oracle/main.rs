@@ -2,7 +2,6 @@
 // Written from document 01 alone; it shares no code with the library or with the tests' sheets.
 //
 //   oracle             answers the questions of each trial
-//   oracle verdicts    says of each trial's sheet, one to a line: 'fails', 'holds' or 'refused'
 //   oracle program     writes what the program writes, with the same standard input
 //   oracle words WORD FILE..       writes what the program writes when called with these
 //   oracle sheets EVERY FOLDER     writes the sheet of every EVERYth trial to a file of its own
@@ -35,7 +34,6 @@ fn main() -> io::Result<()> {
     let named: Vec<&str> = words.iter().map_while(|word| word.to_str()).collect();
     match named[..] {
         [] => answer(&mut input, &mut output)?,
-        ["verdicts"] => verdicts(&mut input, &mut output)?,
         ["program"] => {
             let mut bytes = Vec::new();
             input.read_to_end(&mut bytes)?;
@@ -76,18 +74,6 @@ fn answer(input: &mut impl Read, output: &mut impl Write) -> io::Result<()> {
         for (subject, number) in questions {
             output.write_all(&asked.answer(subject, number))?;
         }
-    }
-    Ok(())
-}
-
-fn verdicts(input: &mut impl Read, output: &mut impl Write) -> io::Result<()> {
-    while let Some((sheet, _)) = next_trial(input)? {
-        let verdict = match Asked::about(sheet).fails() {
-            Ok(true) => "fails",
-            Ok(false) => "holds",
-            Err(_) => "refused",
-        };
-        writeln!(output, "{}", verdict)?;
     }
     Ok(())
 }
