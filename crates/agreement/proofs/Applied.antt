@@ -8,7 +8,7 @@ use mathlib.Core.Option.{Option, none, some}
 use native.Mathlib.Omega.{arith}
 use lib.Dec.{lit≤}
 use lib.IntN.{ℤ, pos, negsuc}
-use lib.ListN.{length, set, drop}
+use lib.ListN.{length, set, take, drop}
 use Rattle.lists.specs.Places.{allBelow}
 use Rattle.lists.specs.Course.{below, course}
 use Rattle.lists.specs.First.{first}
@@ -50,10 +50,15 @@ use Rattle.smtlib.specs.Satisfaction.{Satisfies}
 use Rattle.wording.specs.Words.{wordOf}
 use Rattle.wording.specs.Sixteen.{hexDigit, hexText, literal, symbolText}
 use Rattle.wording.specs.Script.{joined, script}
+use Rattle.wording.proofs.Sexps.{width16}
+use Rattle.wording.proofs.Spelt.{width-spelled}
+use Rattle.wording.proofs.Forms.{scriptBy}
+use Rattle.wording.proofs.Bits.{bitsLiteral}
 use Rattle.writer.specs.Writes.{enoughRoom}
 use Rattle.agreement.specs.Starred.{block, case1, case8, case11}
-use Rattle.agreement.specs.Statements.{Sheet, Matched, Listed}
-use Rattle.agreement.proofs.Proved.{tallied, checked, sheet-of-rule, rule-of-sheet, one-byte-changed, holds-where, room-enough, match, check-agrees, tally-agrees, same-script}
+use Rattle.agreement.specs.Statements.{Sheet, settingOf, Matched, Listed}
+use Rattle.agreement.proofs.Proved.{held as held-in-16}
+use Rattle.agreement.proofs.Proved.{tallied, checked, sheet-of-rule, rule-of-sheet, one-byte-changed, holds-where, room-enough, match, match-in-bits, check-agrees, tally-agrees, same-script}
 
 -- ---- what is computed of a sheet of two variables, and of one with other names
 pub record Computed (s other : List ℕ) (cases heldCases failedCases : ℕ) (firstCase : Option (List ℤ)) : Type 0 where
@@ -101,6 +106,10 @@ module _ {s other : List ℕ} {cases heldCases failedCases : ℕ} {firstCase : O
   pub matches : Matched 16 (ruleIn s) (script (ruleIn s))
   matches = match s sheet .0
 
+  -- in binary too
+  pub matches-in-bits : Matched 16 (ruleIn s) (scriptBy (bitsLiteral 16) symbolText width16 (ruleIn s))
+  matches-in-bits = match-in-bits width16 width-spelled (lit≤ tt) (ruleIn s) (allowed-sheet .0 .well-formed) (held-in-16 sheet)
+
   pub as-many : (ts : List (List ℕ)) × Listed (script (ruleIn s)) ts × (failedCases ≡ length ts)
   as-many = tally-agrees s sheet few-cases _ tally-is
 
@@ -128,6 +137,10 @@ module _ {s other : List ℕ} {cases heldCases failedCases : ℕ} {firstCase : O
     -- a rule that fails: some setting satisfies the script
     pub some-setting : {first : List ℤ} → firstCase ≡ some first → (t : List ℕ) × Satisfies (script (ruleIn s)) t
     some-setting e = check-agrees s sheet few-cases room _ Fails (enough room three) (fails-as e) .0 .0 refl
+
+    -- and the case that the check names gives one
+    pub named-setting : {first : List ℤ} → (e : firstCase ≡ some first) → Satisfies (script (ruleIn s)) (settingOf 16 (take (variableCount s) (first ++ drop (length first) room)))
+    named-setting e = check-agrees s sheet few-cases room _ Fails (enough room three) (fails-as e) .1 refl
 
     -- a rule that holds: none does
     pub no-setting : firstCase ≡ none → (t : List ℕ) → Satisfies (script (ruleIn s)) t → ⊥
@@ -195,6 +208,10 @@ three = pos 7 ∷ negsuc 7 ∷ pos 9 ∷ []
 
 pub satisfiable-A : (t : List ℕ) × Satisfies (script (ruleIn sheetA)) t
 satisfiable-A = some-setting computedA (lit≤ tt) three refl refl
+
+pub named-A : Satisfies (script (ruleIn sheetA)) (0 ∷ 1 ∷ [])
+unfolding enc
+named-A = named-setting computedA (lit≤ tt) three refl refl
 
 pub two-settings-A : (ts : List (List ℕ)) × Listed (script (ruleIn sheetA)) ts × (2 ≡ length ts)
 two-settings-A = as-many computedA (lit≤ tt)

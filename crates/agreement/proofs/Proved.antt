@@ -44,8 +44,9 @@ use Rattle.wording.specs.Script.{script}
 use Rattle.wording.proofs.Sexps.{declares, constant16}
 use Rattle.wording.proofs.Injective.{script-injective}
 use Rattle.wording.proofs.Forms.{form16, script-by, script-read}
+use Rattle.wording.proofs.Bits.{form-bits}
 use Rattle.wording.proofs.MeansTrees.{NoWrap}
-use Rattle.wording.proofs.MeansClaims.{Held}
+use Rattle.wording.proofs.MeansClaims.{WidthHolds}
 use Rattle.wording.proofs.MeansMatch.{one-case}
 use Rattle.wording.proofs.MeansScript.{form-means, held16}
 use Rattle.writer.proofs.ScriptLaws.{script-short}
@@ -102,13 +103,16 @@ match-at-width literal name digits m form r few well h = record {
   onto = λ t. form-means form r few well h t .0;
 }
 
+pub match-in-bits : promise.MatchInBits
+match-in-bits digits spelled positive r well = match-at-width _ _ _ _ (form-bits digits spelled positive) r (omega (arith, well .few)) well
+
 -- in a case of an accepted sheet no operator wraps, since each value lies in its range
 module _ {s : List ℕ} (h : Sheet s) where
   no-wrap : {c : List ℤ} → Case (ruleIn s) c → (a : Sort) (t : Tree a) → FitsIn (ruleIn s) a t → NoWrap 16 (valueIn c) a t
   no-wrap k Truth t f = tt
   no-wrap k Integer t f = narrow-within (in-narrow (rw (tree-range (domainOf (ruleIn s)) t) at f) (value-in (case-in k) t))
 
-  held : Held 16 (ruleIn s)
+  pub held : WidthHolds 16 (ruleIn s)
   held = held16 (allowed h .well-formed) (λ c k. follows (FitsIn (ruleIn s)) (NoWrap 16 (valueIn c)) (no-wrap k) (ruleIn s .goal) (allowed h .lawful .ranges))
 
 declares-from : (i : ℕ) (vs : List Variable) → declares constant16 symbolText 16 i vs ≡ from (λ j. record { name = symbolText j; sort = bitVec 16 }) i (length vs)

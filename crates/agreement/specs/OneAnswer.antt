@@ -7,8 +7,7 @@ use mathlib.Core.List.{List}
 use mathlib.Core.Option.{Option}
 use denote.Ref.{RefT}
 use lib.IntN.{ℤ}
-use Rattle.lists.specs.Part.{PartAt}
-use Rattle.lists.proofs.PartLaws.{SamePart}
+use Rattle.lists.specs.Part.{PartAt, SamePart}
 use Rattle.numbers.specs.declared.Range.{Range}
 use Rattle.numbers.specs.declared.Refusal.{Refusal}
 use Rattle.meaning.specs.Odometer.{Lowered, Advanced}

@@ -26,14 +26,17 @@ use Rattle.cases.specs.declared.Checked.the-variants.{Holds, Fails}
 use Rattle.cases.specs.declared.Tallied.{Tallied}
 use Rattle.cases.specs.Checks.{Checks}
 use Rattle.cases.specs.Tallies.{Tallies}
+use Rattle.smtlib.specs.Tokens.{numeral}
 use Rattle.smtlib.specs.Values.{bitVec}
 use Rattle.smtlib.specs.Terms.{numberOf}
 use Rattle.smtlib.specs.Commands.{Declaration}
 use Rattle.smtlib.specs.Satisfaction.{declared, Satisfies}
+use Rattle.smtlib.proofs.Printing.{Spelled}
 use Rattle.wording.specs.Sixteen.{symbolText}
 use Rattle.wording.specs.Script.{script}
 use Rattle.wording.proofs.Forms.{Form, scriptBy}
-use Rattle.wording.proofs.MeansClaims.{Held}
+use Rattle.wording.proofs.Bits.{bitsLiteral}
+use Rattle.wording.proofs.MeansClaims.{WidthHolds}
 use Rattle.writer.specs.Writes.{enoughRoom}
 
 -- an accepted sheet: bytes to which no row of the table of refusals applies
@@ -89,12 +92,19 @@ symbols n = from (λ i. record { name = symbolText i; sort = bitVec 16 }) 0 n
 abbrev pub Match : Type 0
 Match = (s : List ℕ) → Sheet s → Matched 16 (ruleIn s) (script (ruleIn s)) × (declared (script (ruleIn s)) ≡ some (symbols (variableCount s)))
 
--- over any width that holds the rule, and any form of the script at that width
+-- over any width that holds the rule, and any form of the script at that width; what both are (`WidthHolds`, `Form`) is about the text and about its
+-- reading, and stands where both are known, in `wording/proofs`
 abbrev pub MatchAtWidth : Type 0
 MatchAtWidth =
     (literal : ℤ → List ℕ) (name : ℕ → List ℕ) (digits : List ℕ) (m : ℕ) → Form literal name digits m
-    → (r : Rule) → length (r .variables) ≤ m → WellFormed r → Held (numberOf 10 digits) r
+    → (r : Rule) → length (r .variables) ≤ m → WellFormed r → WidthHolds (numberOf 10 digits) r
     → Matched (numberOf 10 digits) r (scriptBy literal name digits r)
+
+-- such a form, at every width: a constant is `#b` and so many binary digits
+abbrev pub MatchInBits : Type 0
+MatchInBits =
+    (digits : List ℕ) → Spelled (numeral digits) → 1 ≤ numberOf 10 digits → (r : Rule) → WellFormed r → WidthHolds (numberOf 10 digits) r
+    → Matched (numberOf 10 digits) r (scriptBy (bitsLiteral (numberOf 10 digits)) symbolText digits r)
 
 -- up to 1,000,000 cases and with room for V numbers, the check reports a failing case exactly when some setting satisfies the script, and the case gives one
 abbrev pub CheckAgrees : Type 0

@@ -1,13 +1,9 @@
 -- No second part fits a statement on a returned part: same bytes, at the same place in memory. Assumes nothing.
-use mathlib.Core.Path.{_≡_, sym, _∙_}
+use mathlib.Core.Path.{sym, _∙_}
 use mathlib.Core.List.{List}
 use Prim.Native.Nat.{ℕ}
 use denote.Ref.{RefT}
-use Rattle.lists.specs.Part.{PartAt}
-
--- what of a part is run: its bytes, and where they stand
-abbrev pub SamePart : RefT (List ℕ) → RefT (List ℕ) → Type 0
-SamePart p q = (p .now ≡ q .now) × (p .ptr ≡ q .ptr)
+use Rattle.lists.specs.Part.{PartAt, SamePart}
 
 pub part-once : {whole p q : RefT (List ℕ)} {a n : ℕ} → PartAt whole p a n → PartAt whole q a n → SamePart p q
 part-once h g = (h .bytes ∙ sym (g .bytes), λ i. ((h .memory ∙ sym (g .memory)) i, (h .place ∙ sym (g .place)) i))

@@ -11,9 +11,9 @@ use Rattle.meaning.specs.declared.Sort.the-variants.{Truth}
 use Rattle.meaning.specs.Tree.{Tree, tru, fls, equal, var}
 use Rattle.meaning.specs.Value.{value}
 use Rattle.meaning.specs.Rule.{Variable, Rule, domainOf}
-use Rattle.meaning.specs.Cases.{sizeOf, members, cases, casesOf, holds, AllHold, failures, firstFailure, held, failed}
+use Rattle.meaning.specs.Cases.{sizeOf, members, cases, casesOf, holds, AllHold, failures, firstFailure, held, failed, FirstFailing}
 use Rattle.meaning.specs.Odometer.{next}
-use Rattle.meaning.proofs.Failures.{FirstFailing, first-none, first-some}
+use Rattle.meaning.proofs.Failures.{first-none, first-some}
 use Rattle.meaning.proofs.SomeCase.{HasValues, some-case}
 
 -- ---- 1: sheet A, seated 0..1 and trained 0..1, with the goal that they are equal

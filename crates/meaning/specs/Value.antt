@@ -1,5 +1,5 @@
--- The value of a tree where each variable has a value: RISCAL manual, sections B.4 (types), B.5.2 (formulas), B.5.3 (equalities and
--- inequalities), B.5.4 (integers) and B.5.12 (conditionals). It knows nothing of sheets, of bits or of any solver.
+-- The value of a tree where each variable has a value: RISCAL manual, sections B.4 (types), B.5.1 (names), B.5.2 (formulas), B.5.3 (equalities
+-- and inequalities), B.5.4 (integers) and B.5.12 (conditionals). It knows nothing of sheets, of bits or of any solver.
 use mathlib.Core.Bool.{Bool, true, false, not, _&&_, _||_}
 use Prim.Native.Nat.{ℕ}
 use lib.Dec.{eqb}
@@ -49,9 +49,10 @@ value ρ (iff a b) = equivalent (value ρ a) (value ρ b)
 value ρ (equal a b) = equals (value ρ a) (value ρ b)
 value ρ (less a b) = ltZ (value ρ a) (value ρ b)
 value ρ (atMost a b) = leZ (value ρ a) (value ρ b)
+-- B.5.1: a name has the value that it was given
+value ρ (var i) = ρ i
 -- B.5.4
 value ρ (const z) = z
-value ρ (var i) = ρ i
 value ρ (minus a) = negℤ (value ρ a)
 value ρ (sum a b) = value ρ a +ℤ value ρ b
 value ρ (difference a b) = value ρ a -ℤ value ρ b

@@ -3,7 +3,8 @@ use Prim.Native.Nat.{ℕ}
 use mathlib.Core.Path.{_≡_}
 use mathlib.Core.List.{List}
 use denote.Ref.{RefT}
-use Rattle.lists.proofs.PartLaws.{SamePart, part-once}
+use Rattle.lists.specs.Part.{SamePart}
+use Rattle.lists.proofs.PartLaws.{part-once}
 use Rattle.refusals.specs.declared.Reading.{Reading}
 use Rattle.refusals.specs.Said.{saidOf}
 use Rattle.refusals.proofs.SaidLaws.{said-once}

@@ -3,8 +3,8 @@ use mathlib.Core.Path.{_≡_}
 use mathlib.Core.List.{List}
 use Prim.Native.Nat.{ℕ, _+_}
 use denote.Ref.{RefT}
-use Rattle.lists.specs.Part.{PartAt}
-use Rattle.lists.proofs.PartLaws.{SamePart, part-once}
+use Rattle.lists.specs.Part.{PartAt, SamePart}
+use Rattle.lists.proofs.PartLaws.{part-once}
 use Rattle.layout.specs.Parts.{nameSize}
 use Rattle.refusals.specs.declared.Reading.{Reading}
 use Rattle.refusals.specs.Said.{saidOf}

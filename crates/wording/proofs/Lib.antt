@@ -2,6 +2,7 @@ pub mod Sexps
 pub mod Spelt
 pub mod Read
 pub mod Forms
+pub mod Bits
 pub mod Injective
 pub mod Worked
 pub mod MeansTrees

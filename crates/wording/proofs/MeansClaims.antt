@@ -33,7 +33,7 @@ use Rattle.wording.proofs.Means.{Holding, means}
 use Rattle.wording.proofs.MeansSettings.{Integers}
 
 -- a rule that w bits hold: its domains' ends and, in every case, each integer in its goal, which names no variables but the rule's
-pub record Held (w : ℕ) (r : Rule) : Type 0 where
+pub record WidthHolds (w : ℕ) (r : Rule) : Type 0 where
   pub low : (i : ℕ) → i < length (r .variables) → Within w (domainOf r i .low)
   pub high : (i : ℕ) → i < length (r .variables) → Within w (domainOf r i .high)
   pub variables : Throughout (Below (length (r .variables))) (r .goal)
@@ -91,7 +91,7 @@ module _ {w v : ℕ} {constant : ℤ → Atom} {name : ℕ → List ℕ} {ρ : �
         first d ds (suc j) n l q = ds j n (omega arith) (omega arith)
 
 -- the symbols may hold any integers of w bits
-pub claims-exactly : {w : ℕ} {constant : ℤ → Atom} {name : ℕ → List ℕ} {r : Rule} {c : List ℤ} {env : Environment} → 1 ≤ w → Held w r
+pub claims-exactly : {w : ℕ} {constant : ℤ → Atom} {name : ℕ → List ℕ} {r : Rule} {c : List ℤ} {env : Environment} → 1 ≤ w → WidthHolds w r
     → Integers w (length (r .variables)) c → Holding w (length (r .variables)) constant name (valueIn c) env → (allTrue env (asked constant name w r .asserts) ≡ true) ↔ Failing r c
 unfolding Cases·holds
 claims-exactly {w} {constant} {name} {r} {c} {env} one m k h = (to, from)

@@ -18,21 +18,21 @@ use Rattle.smtlib.specs.Satisfaction.{Meets}
 use Rattle.wording.proofs.Sexps.{asked}
 use Rattle.wording.proofs.Read.{Texts}
 use Rattle.wording.proofs.MeansSettings.{Integers, encs-inj, fits-exactly, holding}
-use Rattle.wording.proofs.MeansClaims.{Held, claims-exactly}
+use Rattle.wording.proofs.MeansClaims.{WidthHolds, claims-exactly}
 
 in-within : {w : ℕ} {d : Range} {x : ℤ} → Within w (d .low) → Within w (d .high) → In d x → Within w x
 in-within f g m = omega zed
 
 -- a case's values are integers of w bits
-pub case-integers : {w : ℕ} {r : Rule} {c : List ℤ} → Held w r → Case r c → Integers w (length (r .variables)) c
+pub case-integers : {w : ℕ} {r : Rule} {c : List ℤ} → WidthHolds w r → Case r c → Integers w (length (r .variables)) c
 case-integers h k = record { all = k .all; each = λ i l. in-within (h .low i (omega (arith, k .all))) (h .high i (omega (arith, k .all))) (k .each i l) }
 
 -- no two cases have the same setting
-pub one-case : {w : ℕ} {r : Rule} {b c : List ℤ} → 1 ≤ w → Held w r → Case r b → Case r c → map (enc w) b ≡ map (enc w) c → b ≡ c
+pub one-case : {w : ℕ} {r : Rule} {b c : List ℤ} → 1 ≤ w → WidthHolds w r → Case r b → Case r c → map (enc w) b ≡ map (enc w) c → b ≡ c
 one-case one h p q e = encs-inj one (case-integers h p) (case-integers h q) e
 
 module _ {constant : ℤ → Atom} {name : ℕ → List ℕ} {width : List ℕ} {m : ℕ} (texts : Texts constant name width m)
-    {r : Rule} (few : length (r .variables) ≤ m) (h : Held (numberOf 10 width) r) where
+    {r : Rule} (few : length (r .variables) ≤ m) (h : WidthHolds (numberOf 10 width) r) where
   -- the width
   abbrev w : ℕ
   w = numberOf 10 width

@@ -16,16 +16,16 @@ use Rattle.smtlib.specs.Terms.{numberOf}
 use Rattle.smtlib.specs.Satisfaction.{Satisfies}
 use Rattle.wording.proofs.Forms.{Form, scriptBy, form-satisfied}
 use Rattle.wording.proofs.MeansTrees.{NoWrap, fine-below}
-use Rattle.wording.proofs.MeansClaims.{Held}
+use Rattle.wording.proofs.MeansClaims.{WidthHolds}
 use Rattle.wording.proofs.MeansMatch.{meets-exactly}
 
 -- a setting satisfies the script exactly where it is a failing case's
-pub form-means : {literal : ℤ → List ℕ} {name : ℕ → List ℕ} {digits : List ℕ} {m : ℕ} → Form literal name digits m → (r : Rule) → length (r .variables) ≤ m → WellFormed r → Held (numberOf 10 digits) r
+pub form-means : {literal : ℤ → List ℕ} {name : ℕ → List ℕ} {digits : List ℕ} {m : ℕ} → Form literal name digits m → (r : Rule) → length (r .variables) ≤ m → WellFormed r → WidthHolds (numberOf 10 digits) r
     → (t : List ℕ) → Satisfies (scriptBy literal name digits r) t ↔ ((c : List ℤ) × Failing r c × (map (enc (numberOf 10 digits)) c ≡ t))
 form-means form r few well h t = Iff·trans (form-satisfied form r few well t) (meets-exactly (form .texts) few h t)
 
 -- 16 bits hold a rule that has a sheet, if in its cases no operator wraps
-pub held16 : {r : Rule} → WellFormed r → ((c : List ℤ) → Case r c → Throughout (NoWrap 16 (valueIn c)) (r .goal)) → Held 16 r
+pub held16 : {r : Rule} → WellFormed r → ((c : List ℤ) → Case r c → Throughout (NoWrap 16 (valueIn c)) (r .goal)) → WidthHolds 16 r
 held16 {r} well values = record {
   low = λ i l. narrow-within (well .variables i l .ends .low);
   high = λ i l. narrow-within (well .variables i l .ends .high);

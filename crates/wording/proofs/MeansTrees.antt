@@ -12,7 +12,6 @@ use Rattle.kinds.specs.declared.Shape.the-variants.{Wrong, Bare, Valued, Named,
 use Rattle.kinds.specs.Kinds.{row}
 use Rattle.kinds.specs.Rows.{Args, Each, by-rows, Throughout}
 use Rattle.kinds.proofs.ClaimLaws.{Parts, throughout-make}
-pub use Rattle.kinds.proofs.ClaimLaws.{follows}
 use Rattle.layout.specs.WellFormed.{Fine}
 use Rattle.layout.proofs.Made.{FineMade, fine-make}
 
