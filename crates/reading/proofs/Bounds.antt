@@ -9,9 +9,9 @@ use lib.ListN.{length}
 use Rattle.numbers.specs.declared.Refusal.{Refusal}
 use Rattle.layout.specs.Limits.{blockBytes, mostBlocks, mostNodes, mostVariables}
 use Rattle.layout.specs.Parts.{nodeCount, variableCount}
-use Rattle.reading.specs.Rows.{long, nodes, variables, no-node, row-1, row-2, row-3, row-4, row-5, Applies, whole, node, goal}
+use Rattle.reading.specs.Rows.{long, nodes, variables, no-node, row-1, row-2, row-3, row-4, row-5, goal-6, goal-7, Applies, whole, node, after}
 use Rattle.reading.specs.Cascade.{refusalOf}
-use Rattle.reading.proofs.Stages.{node-number, goal-number}
+use Rattle.reading.proofs.Stages.{node-number}
 use Rattle.reading.proofs.Exact.{refused-exactly}
 
 -- what a refusal's number and place can be
@@ -51,8 +51,10 @@ module _ (s : List ℕ) where
       let b = node-number h in
       let c = nodes-bound (omega arith) f in
       record { some-number = omega arith; most-number = omega arith; low-place = omega arith }
-  bounds (goal n h) f =
-      let b = goal-number h in
+  bounds (after i n p (goal-6 h)) f =
+      let c = nodes-bound (omega arith) f in
+      record { some-number = omega arith; most-number = omega arith; low-place = omega arith }
+  bounds (after i n p (goal-7 h)) f =
       let c = nodes-bound (omega arith) f in
       record { some-number = omega arith; most-number = omega arith; low-place = omega arith }
 

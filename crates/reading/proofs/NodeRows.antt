@@ -28,8 +28,8 @@ use Rattle.findings.specs.Findings.{fitting}
 use Rattle.findings.specs.Steps.{sameSort}
 use Rattle.findings.proofs.FindingLaws.{decides-same}
 use Rattle.nodes.specs.Nodes.{findingAt, areSorted, typed, nodeRefusal, goalRefusal, goalAt, nodes}
-use Rattle.reading.specs.Rows.{Row6, unknown, unused, spare, misplaced, unlisted, Row7, Row8, GoalSubtree, GoalType, OfNode, row-6, row-7, row-8, OfGoal, goal-6, goal-7, node, goal}
-use Rattle.reading.proofs.Stages.{Stage, row, then, no-turn, of-node, of-goal}
+use Rattle.reading.specs.Rows.{Row6, unknown, unused, spare, misplaced, unlisted, Row7, Row8, GoalSubtree, GoalType, OfNode, row-6, row-7, row-8, AfterNodes, goal-6, goal-7, node, after}
+use Rattle.reading.proofs.Stages.{endTurn, Stage, row, then, no-turn, of-node, of-after}
 
 -- the row of a number
 row6-in : {s : List ℕ} {n : ℕ} → OfNode s n 6 → Row6 s n
@@ -41,10 +41,10 @@ row7-in (row-7 h) = h
 row8-in : {s : List ℕ} {n : ℕ} → OfNode s n 8 → Row8 s n
 row8-in (row-8 h) = h
 
-subtree-in : {s : List ℕ} → OfGoal s 6 → GoalSubtree s
+subtree-in : {s : List ℕ} {m p : ℕ} → AfterNodes s 0 m p → GoalSubtree s
 subtree-in (goal-6 h) = h
 
-type-in : {s : List ℕ} → OfGoal s 7 → GoalType s
+type-in : {s : List ℕ} {m p : ℕ} → AfterNodes s 1 m p → GoalType s
 type-in (goal-7 h) = h
 
 -- ---- sorts
@@ -151,17 +151,17 @@ module _ (s : List ℕ) where
       rw (first-suc k m) (then s _ _ (omega arith) (omega arith) (node-stage k (omega arith)) (λ d. rw e at (some-nodes m (suc k) (omega arith))))
 
   -- ---- the goal
-  goal-stage : Stage s (3 * nodeCount s + 6) (3 * nodeCount s + 8) (goalRefusal (startAt (table s) (goalAt s)) (sortAt (table s) (goalAt s)) (goalAt s))
+  goal-stage : Stage s (3 * nodeCount s + 6) (endTurn s) (goalRefusal (startAt (table s) (goalAt s)) (sortAt (table s) (goalAt s)) (goalAt s))
   goal-stage =
-      let a : Stage s (3 * nodeCount s + 6) (3 * nodeCount s + 6 + 1) (unless (eqb (startAt (table s) (goalAt s)) 0) 6 (goalAt s)) =
-      row s _ (3 * nodeCount s + 6) 6 (goalAt s) (λ e. goal 6 (goal-6 (eqb-false _ 0 e))) (λ e m p x. subtree-in (of-goal 6 (omega arith) refl x) (eqb-true _ 0 e)) in
-      let b : Stage s (3 * nodeCount s + 7) (3 * nodeCount s + 7 + 1) (unless (sameSort (sortAt (table s) (goalAt s)) truth) 7 (goalAt s)) =
-      row s _ (3 * nodeCount s + 7) 7 (goalAt s) (λ e. goal 7 (goal-7 (denied (decides-same _ truth) .0 e))) (λ e m p x. type-in (of-goal 7 (omega arith) refl x) (decides-same _ truth .0 e)) in
-      let p : 3 * nodeCount s + 6 + 1 ≡ 3 * nodeCount s + 7 = omega arith in
-      let q : 3 * nodeCount s + 7 + 1 ≡ 3 * nodeCount s + 8 = omega arith in
+      let a : Stage s (3 * nodeCount s + 6 + 0) (3 * nodeCount s + 6 + 0 + 1) (unless (eqb (startAt (table s) (goalAt s)) 0) 6 (goalAt s)) =
+      row s _ (3 * nodeCount s + 6 + 0) 6 (goalAt s) (λ e. after 0 6 (goalAt s) (goal-6 (eqb-false _ 0 e))) (λ e m p x. subtree-in (of-after 0 refl x) (eqb-true _ 0 e)) in
+      let b : Stage s (3 * nodeCount s + 6 + 1) (3 * nodeCount s + 6 + 1 + 1) (unless (sameSort (sortAt (table s) (goalAt s)) truth) 7 (goalAt s)) =
+      row s _ (3 * nodeCount s + 6 + 1) 7 (goalAt s) (λ e. after 1 7 (goalAt s) (goal-7 (denied (decides-same _ truth) .0 e))) (λ e m p x. type-in (of-after 1 refl x) (decides-same _ truth .0 e)) in
+      let p : 3 * nodeCount s + 6 + 0 ≡ 3 * nodeCount s + 6 = omega arith in
+      let q : 3 * nodeCount s + 6 + 1 + 1 ≡ endTurn s = omega arith in
       then s _ _ (omega arith) (omega arith) (rw p at a) (λ e. rw q at b)
 
-  pub nodes-stage : Stage s 6 (3 * nodeCount s + 8) (nodes s)
+  pub nodes-stage : Stage s 6 (endTurn s) (nodes s)
   unfolding nodes
   nodes-stage =
       let e : 0 + nodeCount s ≡ nodeCount s = omega arith in

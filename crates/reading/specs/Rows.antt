@@ -84,15 +84,16 @@ pub data OfNode (s : List ℕ) (n : ℕ) : (number : ℕ) → Type 0 where
   row-7 : Row7 s n → OfNode s n 7
   row-8 : Row8 s n → OfNode s n 8
 
-pub data OfGoal (s : List ℕ) : (number : ℕ) → Type 0 where
-  goal-6 : GoalSubtree s → OfGoal s 6
-  goal-7 : GoalType s → OfGoal s 7
+-- after all nodes the rows come by rank
+pub data AfterNodes (s : List ℕ) : (rank number place : ℕ) → Type 0 where
+  goal-6 : GoalSubtree s → AfterNodes s 0 6 (nodeCount s - 1)
+  goal-7 : GoalType s → AfterNodes s 1 7 (nodeCount s - 1)
 
--- the order: 1 to 5 by number, over the whole sheet; then nodes from 0 up, at each 6, 7, 8; after all nodes the goal. A row that applies has its turn.
+-- the order: 1 to 5 by number, over the whole sheet; then nodes from 0 up, at each 6, 7, 8; after all nodes by rank. A row that applies has its turn.
 pub data Applies (s : List ℕ) : (turn number place : ℕ) → Type 0 where
   whole : (number place : ℕ) → OfSheet s number place → Applies s number number place
   node : (n number : ℕ) → n < nodeCount s → OfNode s n number → Applies s (3 * n + number) number n
-  goal : (number : ℕ) → OfGoal s number → Applies s (3 * nodeCount s + number) number (nodeCount s - 1)
+  after : (rank number place : ℕ) → AfterNodes s rank number place → Applies s (3 * nodeCount s + 6 + rank) number place
 
 -- the row applies, and none whose turn is earlier does
 pub record Answer (s : List ℕ) (r : Refusal) : Type 0 where
