@@ -7,6 +7,7 @@ use mathlib.Core.Option.{Option, none, some}
 use native.Mathlib.Decide.{decLt}
 use native.Mathlib.Omega.{arith}
 use Rattle.numbers.specs.declared.Refusal.{Refusal}
+use Rattle.refusals.proofs.SaidLaws.{same-refusal}
 use Rattle.reading.specs.Rows.{Row2, Row5, OfSheet, row-1, row-2, row-3, row-4, row-5, AfterNodes, goal-6, goal-7, Applies, whole, node, after, Answer, Accepted}
 use Rattle.reading.specs.Cascade.{refusalOf}
 use Rattle.reading.proofs.Stages.{endTurn, Stage, then, sheet-number, node-number, turn-inside}
@@ -78,7 +79,7 @@ module _ (s : List ℕ) where
       go (no l) (no g) =
           let e : a .turn ≡ b .turn = omega arith in
           let w = same-row e (a .applies) (b .applies) in
-          λ i. record { number = w .0 i; place = w .1 i }
+          same-refusal (w .0) (w .1)
 
   -- ---- the theorem
   pub refused-exactly : (r : Refusal) → (refusalOf s ≡ some r) ↔ Answer s r
