@@ -7,12 +7,23 @@ use mathlib.Core.Option.{Option, none, some}
 use native.Mathlib.Decide.{decLt}
 use native.Mathlib.Omega.{arith}
 use Rattle.numbers.specs.declared.Refusal.{Refusal}
+use Rattle.layout.specs.Checks.{checkOf, content, storedCheck}
 use Rattle.refusals.proofs.SaidLaws.{same-refusal}
-use Rattle.reading.specs.Rows.{Row2, Row5, OfSheet, row-1, row-2, row-3, row-4, row-5, AfterNodes, goal-6, goal-7, Applies, whole, node, after, Answer, Accepted}
+use Rattle.records.specs.Names.{VariableKept}
+use Rattle.reading.specs.Rows.{OfSheet, row-1, row-2, row-3, row-4, row-5, AfterNodes, goal-6, goal-7, Applies, whole, node, after, Answer, Accepted}
 use Rattle.reading.specs.Cascade.{refusalOf}
 use Rattle.reading.proofs.Stages.{endTurn, Stage, then, sheet-number, node-number, turn-inside}
 use Rattle.reading.proofs.SheetRows.{early-stage, header-stage, variables-stage}
 use Rattle.reading.proofs.NodeRows.{nodes-stage}
+
+-- the lowest number of which a claim fails is one
+one-lowest : (P : ℕ → Type 0) {j k : ℕ} → (P j → ⊥) → ((i : ℕ) → i < j → P i) → (P k → ⊥) → ((i : ℕ) → i < k → P i) → j ≡ k
+one-lowest P {j} {k} a f b g = go (decLt j k) (decLt k j)
+  where
+    go : Dec (j < k) → Dec (k < j) → j ≡ k
+    go (yes l) d = absurd (a (g j l))
+    go (no l) (yes h) = absurd (b (f k h))
+    go (no l) (no h) = omega arith
 
 module _ (s : List ℕ) where
   all-stages : Stage s 1 (endTurn s) (refusalOf s)
@@ -31,28 +42,12 @@ module _ (s : List ℕ) where
   silent e t n p a = all-stages .quiet e t n p (turn-inside a .0) (turn-inside a .1) a
 
   -- ---- two rows with one turn are one
-  same-block : {j k : ℕ} → Row2 s j → Row2 s k → j ≡ k
-  same-block {j} {k} a b = go (decLt j k) (decLt k j)
-    where
-      go : Dec (j < k) → Dec (k < j) → j ≡ k
-      go (yes l) d = absurd (a .wrong (b .lowest j l))
-      go (no l) (yes g) = absurd (b .wrong (a .lowest k g))
-      go (no l) (no g) = omega arith
-
-  same-variable : {j k : ℕ} → Row5 s j → Row5 s k → j ≡ k
-  same-variable {j} {k} a b = go (decLt j k) (decLt k j)
-    where
-      go : Dec (j < k) → Dec (k < j) → j ≡ k
-      go (yes l) d = absurd (a .broken (b .lower j l))
-      go (no l) (yes g) = absurd (b .broken (a .lower k g))
-      go (no l) (no g) = omega arith
-
   same-place : {t p q : ℕ} → OfSheet s t p → OfSheet s t q → p ≡ q
   same-place (row-1 a) (row-1 b) = refl
-  same-place (row-2 j a) (row-2 k b) = same-block a b
+  same-place (row-2 j a) (row-2 k b) = one-lowest (λ i. checkOf i (content s i) ≡ storedCheck s i) (a .wrong) (a .lowest) (b .wrong) (b .lowest)
   same-place (row-3 a) (row-3 b) = refl
   same-place (row-4 a) (row-4 b) = refl
-  same-place (row-5 j a) (row-5 k b) = same-variable a b
+  same-place (row-5 j a) (row-5 k b) = one-lowest (VariableKept s) (a .broken) (a .lower) (b .broken) (b .lower)
 
   same-after : {i m n p q : ℕ} → AfterNodes s i m p → AfterNodes s i n q → (m ≡ n) × (p ≡ q)
   same-after (goal-6 a) (goal-6 b) = (refl, refl)
