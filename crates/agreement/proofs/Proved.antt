@@ -15,6 +15,7 @@ use Rattle.meaning.specs.declared.Sort.the-variants.{Truth, Integer}
 use Rattle.meaning.specs.Tree.{Tree}
 use Rattle.meaning.specs.Rule.{Variable, domainOf, Case, valueIn}
 use Rattle.meaning.specs.Cases.{Failing, failures}
+use Rattle.meaning.proofs.Listed.{in-every}
 use Rattle.meaning.proofs.Counts.{case-count, held-failed}
 use Rattle.meaning.proofs.Repeats.{map-no-repeats}
 use Rattle.meaning.proofs.Failures.{failures-are, failures-once, failed-is, first-fails, first-some}
@@ -30,7 +31,6 @@ use Rattle.reading.specs.Lawful.{FitsIn, Allowed}
 use Rattle.reading.proofs.Exact.{refused-exactly, accepted-exactly}
 use Rattle.reading.proofs.RuleLaws.{accepted-means, rule-some, rule-exactly, rule-to-sheet, rule-allowed, sheet-to-rule}
 use Rattle.reading.proofs.Change.{changed-byte}
-use Rattle.reading.proofs.Ranges.{case-in}
 use Rattle.odometer.specs.Limit.{mostCases, caseCount}
 use Rattle.cases.specs.declared.Checked.the-variants.{Fails}
 use Rattle.cases.specs.Checks.{tryRefusal, checkRefusal}
@@ -110,7 +110,7 @@ match-in-bits digits spelled positive r well = match-at-width _ _ _ _ (form-bits
 module _ {s : List ℕ} (h : Sheet s) where
   no-wrap : {c : List ℤ} → Case (ruleIn s) c → (a : Sort) (t : Tree a) → FitsIn (ruleIn s) a t → NoWrap 16 (valueIn c) a t
   no-wrap k Truth t f = tt
-  no-wrap k Integer t f = narrow-within (in-narrow (rw (tree-range (domainOf (ruleIn s)) t) at f) (value-in (case-in k) t))
+  no-wrap k Integer t f = narrow-within (in-narrow (rw (tree-range (domainOf (ruleIn s)) t) at f) (value-in (in-every k) t))
 
   pub held : WidthHolds 16 (ruleIn s)
   held = held16 (allowed h .well-formed) (λ c k. follows (FitsIn (ruleIn s)) (NoWrap 16 (valueIn c)) (no-wrap k) (ruleIn s .goal) (allowed h .lawful .ranges))

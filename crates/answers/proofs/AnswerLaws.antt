@@ -21,6 +21,7 @@ use Rattle.layout.proofs.PartLaws.{variable-total}
 use Rattle.refusals.specs.declared.Reading.{Reading}
 use Rattle.refusals.specs.declared.Reading.the-variants.{Accepted, Refused}
 use Rattle.refusals.specs.Said.{saidOf}
+use Rattle.refusals.proofs.AfterLaws.{passes}
 use Rattle.reading.specs.Cascade.{refusalOf}
 use Rattle.odometer.proofs.Domains.{case-narrow}
 use Rattle.cases.specs.declared.Checked.{Checked}
@@ -28,7 +29,7 @@ use Rattle.cases.specs.declared.Checked.the-variants.{Holds, Fails, Refused as 
 use Rattle.cases.specs.declared.Tallied.{Tallied}
 use Rattle.cases.specs.Checks.{tryRefusal, checkRefusal, checkedSaid, verdict, roomAfter, Checks}
 use Rattle.cases.specs.Tallies.{Tallies}
-use Rattle.cases.proofs.TryLaws.{accepted, tried-inside, passes}
+use Rattle.cases.proofs.TryLaws.{accepted, tried-inside}
 use Rattle.wording.specs.Script.{script}
 use Rattle.room.specs.Room.{within, over, Wrote}
 use Rattle.room.proofs.RoomLaws.{wrote-as}

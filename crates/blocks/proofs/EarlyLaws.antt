@@ -1,8 +1,8 @@
 -- Refusals 1 and 2 in propositions: when each is answered, and when neither is. Assumes nothing.
-use mathlib.Core.Path.{_≡_, refl, sym, _∙_, ap}
-use mathlib.Core.Bool.{Bool, true, false, true≢false, not, _&&_, and-false}
+use mathlib.Core.Path.{_≡_, sym, _∙_}
+use mathlib.Core.Bool.{true, false, true≢false, not, _&&_, and-false}
 use mathlib.Core.List.{List}
-use mathlib.Core.Logic.{⊎-elim, _⊎_, inl, inr}
+use mathlib.Core.Logic.{_⊎_, inl, inr}
 use mathlib.Core.Option.{none, some}
 use Prim.Native.Nat.{ℕ, _*_, _/_, _%_, _≤_, _<_}
 use native.Mathlib.Nat.{zero-add}
@@ -12,12 +12,11 @@ use borrow.Author.Tests.{eq-eqb, ne-eqb, eqb-true, eqb-false, not-true, le-leb, 
 use lib.Dec.{eqb, leb}
 use lib.ListN.{length}
 use Rattle.lists.proofs.TestLaws.{both}
-use Rattle.lists.proofs.FirstLaws.{neither, otherwise-none, otherwise-some, first-none, none-first, first-some, some-first}
-use Rattle.numbers.specs.declared.Refusal.{Refusal}
+use Rattle.lists.proofs.FirstLaws.{neither, otherwise-none, otherwise-some, first-none, none-first, some-first}
 use Rattle.layout.specs.Limits.{blockBytes, mostBlocks}
 use Rattle.layout.specs.Checks.{blockRight}
-use Rattle.refusals.proofs.SaidLaws.{unless-none, unless-true, unless-false, unless-some}
-use Rattle.blocks.specs.Early.{lengthRight, checkRefusal, checksRefusal, early}
+use Rattle.refusals.proofs.SaidLaws.{unless-none, unless-true, unless-false}
+use Rattle.blocks.specs.Early.{lengthRight, blockRefusal, checksRefusal, early}
 
 -- the length
 module _ (n : ℕ) where
@@ -63,13 +62,6 @@ pub record LowestWrong (s : List ℕ) (k : ℕ) : Type 0 where
   pub wrong : blockRight s k ≡ false
   pub lower : (j : ℕ) → j < k → blockRight s j ≡ true
 
--- why a sheet is refused by 1, and by 2
-abbrev pub ByLength : List ℕ → Refusal → Type 0
-ByLength s r = (lengthRight (length s) ≡ false) × (r ≡ record { number = 1; place = 0 })
-
-abbrev pub ByCheck : List ℕ → Refusal → Type 0
-ByCheck s r = (lengthRight (length s) ≡ true) × (r .number ≡ 2) × LowestWrong s (r .place)
-
 module _ (s : List ℕ) where
   -- refusal 1
   pub early-length : lengthRight (length s) ≡ false → early s ≡ some (record { number = 1; place = 0 })
@@ -84,31 +76,14 @@ module _ (s : List ℕ) where
   pub early-lowest : {k : ℕ} → lengthRight (length s) ≡ true → LowestWrong s k → early s ≡ some (record { number = 2; place = k })
   early-lowest {k} e w =
       early-right e ∙
-      some-first (checkRefusal s) _ 0 k (omega arith) (rw zero-add (w .inside)) (unless-false 2 k (w .wrong)) (λ j l h. unless-true 2 j (w .lower j h))
+      some-first (blockRefusal s) _ 0 k (omega arith) (rw zero-add (w .inside)) (unless-false 2 k (w .wrong)) (λ j l h. unless-true 2 j (w .lower j h))
 
   -- neither
   pub early-none : early s ≡ none → (lengthRight (length s) ≡ true) × ((k : ℕ) → k < length s / blockBytes → blockRight s k ≡ true)
   unfolding early
   early-none e =
       let w = neither _ _ e in
-      (unless-none _ 1 0 (w .0), λ k h. unless-none _ 2 k (first-none (checkRefusal s) _ 0 (w .1) k (omega arith) (rw zero-add h)))
+      (unless-none _ 1 0 (w .0), λ k h. unless-none _ 2 k (first-none (blockRefusal s) _ 0 (w .1) k (omega arith) (rw zero-add h)))
 
   pub none-early : lengthRight (length s) ≡ true → ((k : ℕ) → k < length s / blockBytes → blockRight s k ≡ true) → early s ≡ none
-  none-early e h = early-right e ∙ none-first (checkRefusal s) _ 0 (λ j l m. unless-true 2 j (h j (rw zero-add at m)))
-
-  -- what is answered, and why
-  pub early-some : {r : Refusal} → early s ≡ some r → ByLength s r ⊎ ByCheck s r
-  early-some {r} e = go (lengthRight (length s)) refl
-    where
-      go : (t : Bool) → lengthRight (length s) ≡ t → ByLength s r ⊎ ByCheck s r
-      go true q =
-          let w = first-some (checkRefusal s) _ 0 (sym (early-right q) ∙ e) in
-          let u = unless-some _ 2 (w .number) (w .answers) in
-          inr (q, rw (u .1), rw (u .1) (record { inside = rw zero-add at (w .high); wrong = u .0; lower = λ j h. unless-none _ 2 j (w .lowest j (omega arith) h) }))
-      go false q = inl (q, cc (early-length q))
-
-  pub early-1 : {p : ℕ} → early s ≡ some (record { number = 1; place = p }) → (lengthRight (length s) ≡ false) × (p ≡ 0)
-  early-1 e = ⊎-elim (λ w. (w .0, ap (λ (r : Refusal). r .place) (w .1))) (λ w. absurd (omega (arith, w .1))) (early-some e)
-
-  pub early-2 : {k : ℕ} → early s ≡ some (record { number = 2; place = k }) → (lengthRight (length s) ≡ true) × LowestWrong s k
-  early-2 e = ⊎-elim (λ w. absurd (omega (arith, ap (λ (r : Refusal). r .number) (w .1)))) (λ w. (w .0, w .2)) (early-some e)
+  none-early e h = early-right e ∙ none-first (blockRefusal s) _ 0 (λ j l m. unless-true 2 j (h j (rw zero-add at m)))

@@ -16,12 +16,12 @@ unfoldable pub lengthRight : ℕ → Bool
 lengthRight n = not (eqb n 0) && eqb (n % blockBytes) 0 && leb n (blockBytes * mostBlocks)
 
 -- refusal 2 at block k
-abbrev pub checkRefusal : List ℕ → ℕ → Option Refusal
-checkRefusal s k = unless (blockRight s k) 2 k
+abbrev pub blockRefusal : List ℕ → ℕ → Option Refusal
+blockRefusal s k = unless (blockRight s k) 2 k
 
 -- refusal 2 at the lowest block, of all whole blocks
 abbrev pub checksRefusal : List ℕ → Option Refusal
-checksRefusal s = first (checkRefusal s) 0 (length s / blockBytes)
+checksRefusal s = first (blockRefusal s) 0 (length s / blockBytes)
 
 unfoldable pub early : List ℕ → Option Refusal
 early s = unless (lengthRight (length s)) 1 0 otherwise checksRefusal s

@@ -8,9 +8,9 @@ use native.Mathlib.Omega.{arith}
 use lib.ListN.{length}
 use Rattle.numbers.specs.declared.Refusal.{Refusal}
 use Rattle.layout.specs.Parts.{ruleIn}
+use Rattle.refusals.proofs.AfterLaws.{stopped}
 use Rattle.reading.specs.Cascade.{refusalOf}
 use Rattle.reading.proofs.Bounds.{refusal-small}
-use Rattle.cases.proofs.TryLaws.{stopped}
 use Rattle.wording.specs.Script.{script}
 use Rattle.writer.specs.declared.Written.{Written}
 use Rattle.writer.specs.declared.Written.the-variants.{Refused}

@@ -1,5 +1,5 @@
 -- The range found of an integer tree holds the tree's value, and is no wider where the domains are no wider. Assumes nothing.
-use Prim.Native.Nat.{ℕ, _<_}
+use Prim.Native.Nat.{ℕ}
 use mathlib.Core.Path.{_≡_, refl, ap, _∙_}
 use mathlib.Core.Bool.{Bool, true, false}
 use native.Mathlib.Omega.{arith}
@@ -15,7 +15,6 @@ use Rattle.meaning.specs.Tree.{Tree, const, var, minus, sum, difference, produc
 use Rattle.meaning.specs.Value.{chosen, value}
 use Rattle.kinds.specs.Rows.{by-rows}
 use Rattle.layout.specs.Fold.{ofTree}
-use Rattle.layout.specs.WellFormed.{Fine}
 use Rattle.layout.proofs.Made.{found-make}
 use Rattle.findings.specs.declared.Finding.{Finding}
 use Rattle.findings.specs.declared.Finding.the-variants.{Truth, Integer}
@@ -56,21 +55,6 @@ module _ {δ : ℕ → Range} {ρ : ℕ → ℤ} (m : (i : ℕ) → In (δ i) (�
 
   pub found-in : (t : Tree integer) {r : Range} → ofTree (findingOf δ) t ≡ Integer r → In r (value ρ t)
   found-in t e = rw e at (value-in t)
-
--- where each of the v variables has one, and the tree names no other
-module _ {δ : ℕ → Range} {ρ : ℕ → ℤ} {v : ℕ} (m : (i : ℕ) → i < v → In (δ i) (ρ i)) where
-  pub fine-in : (t : Tree integer) → Fine v t → In (treeRange δ t) (value ρ t)
-  unfolding ofTree by-rows findingOf value Fine
-  fine-in (const z) h = one-in z
-  fine-in (var i) h = m i h
-  fine-in (minus a) h = minus-in (fine-in a h)
-  fine-in (sum a b) h = sum-in (fine-in a (h .0)) (fine-in b (h .1))
-  fine-in (difference a b) h = difference-in (fine-in a (h .0)) (fine-in b (h .1))
-  fine-in (product a b) h = product-in (fine-in a (h .0)) (fine-in b (h .1))
-  fine-in (ite c a b) h = chosen-in (value ρ c) (fine-in a (h .1)) (fine-in b (h .2))
-
-  pub found-fine-in : (t : Tree integer) {r : Range} → Fine v t → ofTree (findingOf δ) t ≡ Integer r → In r (value ρ t)
-  found-fine-in t h e = rw e at (fine-in t h)
 
 -- ---- where no domain is empty, no range is, and narrower domains give narrower ranges
 module _ {δ : ℕ → Range} (some : (i : ℕ) → δ i .low ≤ℤ δ i .high) where

@@ -1,7 +1,6 @@
 -- Laws of refusals 3 and 4: what the tests say, what the answer says, and what then lies inside the sheet. Assumes nothing.
 use Prim.Native.Nat.{ℕ, zero, suc, _+_, _-_, _*_, _≤_, _<_}
 use mathlib.Core.Path.{_≡_, refl, sym, ap, _∙_}
-use mathlib.Core.Logic.{_⊎_, inl, inr}
 use mathlib.Core.Bool.{Bool, true, false, _&&_, and-false}
 use mathlib.Core.List.{List}
 use mathlib.Core.Option.{none, some, Option·none-ne-some}
@@ -147,14 +146,6 @@ module _ (s : List ℕ) where
       let o = outside-at s d in
       record { edition = h; some-node = c .some-node; most = c .most; few = c .few; size = c .size; gap = o .0; tail = o .1; tails = o .2 }
 
-  pub rest-refuses : edition s ≡ 1 → (HeaderRight s → ⊥) → header s ≡ some (at-0 4)
-  rest-refuses h n = go (countsRight s) (outsideClear s) refl refl
-    where
-      go : (p q : Bool) → countsRight s ≡ p → outsideClear s ≡ q → header s ≡ some (at-0 4)
-      go true true e d = absurd (n (right-of-tests h e d))
-      go true false e d = outside-refuses h d
-      go false q e d = counts-refuse h e
-
   pub right-of-none : header s ≡ none → HeaderRight s
   right-of-none e = go (ℕ-discrete (edition s) 1) (countsRight s) (outsideClear s) refl refl
     where
@@ -163,20 +154,6 @@ module _ (s : List ℕ) where
       go (yes h) true true c o = right-of-tests h c o
       go (yes h) true false c o = absurd (Option·none-ne-some _ (sym e ∙ outside-refuses h o))
       go (yes h) false q c o = absurd (Option·none-ne-some _ (sym e ∙ counts-refuse h c))
-
-  -- which refusal, and why
-  abbrev pub Reason : Refusal → Type 0
-  Reason r = ((r ≡ at-0 3) × (edition s ≡ 1 → ⊥)) ⊎ ((r ≡ at-0 4) × (edition s ≡ 1) × (HeaderRight s → ⊥))
-
-  pub why-refused : {r : Refusal} → header s ≡ some r → Reason r
-  why-refused {r} e = go (ℕ-discrete (edition s) 1)
-    where
-      wrong : HeaderRight s → ⊥
-      wrong h = Option·none-ne-some _ (sym (none-of-right h) ∙ e)
-
-      go : Dec (edition s ≡ 1) → Reason r
-      go (no n) = inl (cc (edition-refuses n), n)
-      go (yes h) = inr (cc (rest-refuses h wrong), h, wrong)
 
 -- ---- what lies inside, where the counts and the length are right
 module _ {s : List ℕ} (c : Counted s) where

@@ -1,21 +1,19 @@
 -- The bytes that document 01 lists as zero are those that refusal 4 looks at. Assumes nothing.
 use Prim.Native.Nat.{ℕ, zero, suc, _+_, _-_, _*_, _/_, _%_, _≤_, _<_, min}
-use mathlib.Core.Path.{_≡_, refl, sym, ap, subst, _∙_}
-use mathlib.Core.Logic.{_⊎_, inl, inr, ⊎-elim}
-use mathlib.Core.Bool.{Bool, true, false}
+use mathlib.Core.Path.{_≡_, sym, subst, _∙_}
+use mathlib.Core.Logic.{⊎-elim}
+use mathlib.Core.Bool.{false}
 use mathlib.Core.List.{List}
-use mathlib.Core.Option.{some}
 use native.Mathlib.Decide.{decLt}
 use native.Mathlib.Omega.{arith}
-use Rattle.numbers.specs.declared.Refusal.{Refusal}
 use Rattle.numbers.specs.Bytes.{byteAt}
 use Rattle.layout.specs.Limits.{blockBytes, contentBytes, mostVariables, nodeBytes, nodesInBlock, blocksFor, variablePlace, nodePlace}
-use Rattle.layout.specs.Parts.{edition, nodeCount, variableCount, usedInNodeBlock, Zeros}
-use Rattle.header.specs.Header.{zeros, tailClear, outsideClear, header, Counted}
+use Rattle.layout.specs.Parts.{nodeCount, variableCount, usedInNodeBlock, Zeros}
+use Rattle.header.specs.Header.{zeros, tailClear, outsideClear}
 use Rattle.header.specs.MustBeZero.{MustBeZero, header-bytes, variable-record, past-variables, node-record, past-nodes}
 use Rattle.lists.proofs.BelowLaws.{not-both, Lowest, lowest-of}
 use Rattle.header.proofs.ZeroLaws.{zero-within, not-zero-of}
-use Rattle.header.proofs.HeaderLaws.{counts-of, Tail, Tails, tail-first, tail-later, at-0, HeaderRight, right-counts, right-of-tests, rest-refuses, why-refused}
+use Rattle.header.proofs.HeaderLaws.{Tail, Tails, tail-first, tail-later}
 
 -- ---- each byte of the gap and of a tail is listed
 module _ (v n : ℕ) where
@@ -59,9 +57,6 @@ module _ (s : List ℕ) where
   listed-zero few h p (node-record m b u l r) = zero-within s _ _ (h .2 (m / 31) (omega arith)) p (omega arith) (omega arith)
   listed-zero few h p (past-nodes k b u l r o) = zero-within s _ _ (h .2 (k - 1) (omega arith)) p (omega arith) (omega arith)
 
-  pub zero-listed : ListedZero → Zeros s 5 3 × Tail s × Tails s
-  zero-listed h = (λ j l. h _ (gap-listed _ _ j l), λ j l. h _ (tail-listed _ _ j l), λ b k j l. h _ (tails-listed _ _ b j k l))
-
   -- a listed byte that is not zero
   pub record Spoilt : Type 0 where
     pub place : ℕ
@@ -87,18 +82,3 @@ module _ (s : List ℕ) where
 
       in-tail : Lowest (tailClear s) (blocksFor (nodeCount s) + 1) → Spoilt
       in-tail w = at-block (w .number) (w .below) (w .fails)
-
-  -- refusal 4 in the document's words
-  pub why-four : header s ≡ some (at-0 4) → (edition s ≡ 1) × ((Counted s → ⊥) ⊎ Spoilt)
-  why-four e = ⊎-elim (λ w. absurd (three (w .0))) (λ w. (w .1, go (outsideClear s) refl (w .1) (w .2))) (why-refused s e)
-    where
-      three : at-0 4 ≡ at-0 3 → ⊥
-      three d = let z : _≡_ {A = ℕ} 4 3 = ap (λ (r : Refusal). r .number) d in omega arith
-
-      go : (q : Bool) → outsideClear s ≡ q → edition s ≡ 1 → (HeaderRight s → ⊥) → (Counted s → ⊥) ⊎ Spoilt
-      go true o h n = inl (λ c. n (right-of-tests s h (counts-of s c) o))
-      go false o h n = inr (spoilt-of o)
-
-  pub four-of : edition s ≡ 1 → (Counted s → ⊥) ⊎ Spoilt → header s ≡ some (at-0 4)
-  four-of h (inl n) = rest-refuses s h (λ r. n (right-counts s r))
-  four-of h (inr w) = rest-refuses s h (λ r. w .not-zero (listed-zero (r .few) (r .gap, r .tail, r .tails) _ (w .listed)))

@@ -1,4 +1,4 @@
--- What induction by shapes gives of a tree that is made of a kind: the only law that lists the kinds. Assumes nothing.
+-- What induction by shapes gives of a tree that is made of a kind. Assumes nothing.
 use mathlib.Core.Path.{_≡_, refl}
 use Rattle.meaning.specs.declared.Sort.{Sort}
 use Rattle.meaning.specs.Tree.{Tree}

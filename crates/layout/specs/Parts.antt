@@ -61,7 +61,7 @@ ruleIn s = record { variables = from (variableAt s) 0 (variableCount s); goal = 
 abbrev pub Zeros : List ℕ → ℕ → ℕ → Type 0
 Zeros s i n = (j : ℕ) → j < n → byteAt s (i + j) ≡ 0
 
--- the bytes that block k uses end here: after the variable records, or after those of the node records that fall in the block
+-- how many bytes node block b uses, the first being 0: those of the node records that fall in it
 abbrev pub usedInNodeBlock : List ℕ → ℕ → ℕ
 usedInNodeBlock s b = nodeBytes * min nodesInBlock (nodeCount s - nodesInBlock * b)
 

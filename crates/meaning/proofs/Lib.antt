@@ -8,5 +8,4 @@ pub mod SomeCase
 pub mod Row
 pub mod Advancing
 pub mod Rounds
-pub mod Counting
 pub mod Worked

@@ -7,7 +7,7 @@ use native.Mathlib.Decide.{decLt}
 use native.Mathlib.Omega.{arith}
 use borrow.Author.Tests.{eqb-true, eq-eqb, ne-eqb, ltb-true, lt-ltb}
 use lib.Dec.{eqb}
-use Rattle.lists.specs.Course.{below, course}
+use Rattle.lists.specs.Course.{below}
 use Rattle.lists.proofs.CourseLaws.{below-is, below-past}
 use Rattle.lists.proofs.Decided.{Decides, always, decides-as, decides-and, decides-eq}
 use Rattle.kinds.specs.declared.Kind.the-variants.{Variable}
@@ -16,7 +16,7 @@ use Rattle.kinds.specs.declared.Shape.{Shape}
 use Rattle.kinds.specs.declared.Shape.the-variants.{Wrong, Bare, Valued, Named, One, Two, Three}
 use Rattle.kinds.specs.Rows.{Known}
 use Rattle.layout.specs.Limits.{mostVariables, mostNodes}
-use Rattle.layout.specs.Starts.{shapeAt, operandsOf, unusedOf, startBy, startStep, startAt, Ordered, Listed, Placed}
+use Rattle.layout.specs.Starts.{shapeAt, operandsOf, unusedOf, startStep, startAt, Ordered, Listed, Placed}
 use Rattle.layout.proofs.StartLaws.{start-low, Before}
 use Rattle.order.specs.Order.{isKnown, inOrder, isListed, placed}
 
@@ -42,15 +42,6 @@ decides-listed Named r v = (ltb-true (r .a) v, lt-ltb (r .a) v)
 decides-listed (One s) r v = always
 decides-listed (Two s t) r v = always
 decides-listed (Three s t u) r v = always
-
-pub of-known : (h : Shape) → Known h → isKnown h ≡ true
-of-known h = decides-known h .1
-
-pub of-ordered : (st : ℕ → ℕ) (xs : List ℕ) (e : ℕ) → Ordered st e xs → inOrder st e xs ≡ true
-of-ordered st xs e = decides-ordered st xs e .1
-
-pub of-listed : (h : Shape) (r : Record) (v : ℕ) → Listed h r v → isListed h r v ≡ true
-of-listed h r v = decides-listed h r v .1
 
 -- ---- all four at once: what `Placed` says, with any starts
 pub record Keeps (r : Record) (v n : ℕ) (st : ℕ → ℕ) : Type 0 where
@@ -154,20 +145,6 @@ module _ {n : ℕ} {st : ℕ → ℕ} (low : (j : ℕ) → j < n → st j ≤ j)
       let w = fields r v (shapeAt r) l m (k .known) (k .clear) (lower r v e) (k .listed) in
       record { a = w .0; b = w .1; c = w .2; variable = λ q. rw q at (k .listed) }
 
--- ---- the start of a node's subtree, from those of its operands
-pub start-agrees : (h : Shape) (r : Record) (n : ℕ) {g g′ : ℕ → ℕ} → Before n (operandsOf h r) → ((j : ℕ) → j < n → g j ≡ g′ j) → startBy h r n g ≡ startBy h r n g′
-start-agrees Wrong r n b e = refl
-start-agrees Bare r n b e = refl
-start-agrees Valued r n b e = refl
-start-agrees Named r n b e = refl
-start-agrees (One s) r n b e = e (r .a) (b .0)
-start-agrees (Two s t) r n b e = e (r .a) (b .1 .0)
-start-agrees (Three s t u) r n b e = e (r .a) (b .1 .1 .0)
-
-pub placed-start : (r : Record) (v n : ℕ) {st g g′ : ℕ → ℕ} → ((j : ℕ) → j < n → st j ≤ j) → placed r v n st ≡ true → ((j : ℕ) → j < n → g j ≡ g′ j)
-    → startBy (shapeAt r) r n g ≡ startBy (shapeAt r) r n g′
-placed-start r v n low p e = start-agrees (shapeAt r) r n (lower low r v p) e
-
 -- ---- over a table, where the starts below n are known and 0 stands for the rest
 module _ (f : ℕ → Record) where
   pub starts-low : (n j : ℕ) → below 0 (startStep f) n j ≤ j
@@ -188,8 +165,3 @@ module _ (f : ℕ → Record) where
     -- the test of node n
     pub known-placed : (v : ℕ) → placed (f n) v n st ≡ placed (f n) v n (startAt f)
     known-placed v = agrees known-start (λ j l. known-low j) (f n) v
-
-    -- the start of node n
-    pub known-next : startStep f n st ≡ startAt f n
-    unfolding startAt course
-    known-next = ap (startStep f n) known

@@ -1,4 +1,4 @@
--- A refusal's number is 1 to 8, and its place is below the most nodes. Assumes nothing.
+-- The number of a sheet's own refusal is neither 0 nor 9 nor 10, and its place is below the most nodes. Assumes nothing.
 use Prim.Native.Nat.{ℕ, _*_, _≤_, _<_}
 use mathlib.Core.Path.{_≡_}
 use mathlib.Core.List.{List}
@@ -9,15 +9,27 @@ use lib.ListN.{length}
 use Rattle.numbers.specs.declared.Refusal.{Refusal}
 use Rattle.layout.specs.Limits.{blockBytes, mostBlocks, mostNodes, mostVariables}
 use Rattle.layout.specs.Parts.{nodeCount, variableCount}
-use Rattle.reading.specs.Rows.{long, nodes, variables, no-node, row-1, row-2, row-3, row-4, row-5, Applies, whole, node, goal}
+use Rattle.reading.specs.Rows.{long, nodes, variables, no-node, row-1, row-2, row-3, row-4, row-5, goal-6, goal-7, Applies, whole, node, after}
 use Rattle.reading.specs.Cascade.{refusalOf}
-use Rattle.reading.proofs.Stages.{node-number, goal-number}
+use Rattle.reading.proofs.Stages.{sheet-number, node-number}
 use Rattle.reading.proofs.Exact.{refused-exactly}
+
+-- 9 and 10 are not the numbers of a sheet's own rows
+pub not-nine : {s : List ℕ} {t n p : ℕ} → Applies s t n p → n ≡ 9 → ⊥
+not-nine (whole n p a) e = omega (arith, sheet-number a)
+not-nine (node m n l a) e = omega (arith, node-number a)
+not-nine (after i n p (goal-6 h)) e = omega arith
+not-nine (after i n p (goal-7 h)) e = omega arith
+
+pub not-ten : {s : List ℕ} {t n p : ℕ} → Applies s t n p → n ≡ 10 → ⊥
+not-ten (whole n p a) e = omega (arith, sheet-number a)
+not-ten (node m n l a) e = omega (arith, node-number a)
+not-ten (after i n p (goal-6 h)) e = omega arith
+not-ten (after i n p (goal-7 h)) e = omega arith
 
 -- what a refusal's number and place can be
 pub record Small (number place : ℕ) : Type 0 where
   pub some-number : 1 ≤ number
-  pub most-number : number ≤ 8
   pub low-place : place < mostNodes
 
 module _ (s : List ℕ) where
@@ -38,23 +50,25 @@ module _ (s : List ℕ) where
   )
 
   bounds : {t n p : ℕ} → Applies s t n p → First t → Small n p
-  bounds (whole n p (row-1 h)) f = record { some-number = omega arith; most-number = omega arith; low-place = omega arith }
+  bounds (whole n p (row-1 h)) f = record { some-number = omega arith; low-place = omega arith }
   bounds (whole n p (row-2 k h)) f =
       let l = size-bound (omega arith) f in
-      record { some-number = omega arith; most-number = omega arith; low-place = omega (arith, h .inside) }
-  bounds (whole n p (row-3 h)) f = record { some-number = omega arith; most-number = omega arith; low-place = omega arith }
-  bounds (whole n p (row-4 h)) f = record { some-number = omega arith; most-number = omega arith; low-place = omega arith }
+      record { some-number = omega arith; low-place = omega (arith, h .inside) }
+  bounds (whole n p (row-3 h)) f = record { some-number = omega arith; low-place = omega arith }
+  bounds (whole n p (row-4 h)) f = record { some-number = omega arith; low-place = omega arith }
   bounds (whole n p (row-5 i h)) f =
       let l = variables-bound (omega arith) f in
-      record { some-number = omega arith; most-number = omega arith; low-place = omega (arith, h .below) }
+      record { some-number = omega arith; low-place = omega (arith, h .below) }
   bounds (node m n l h) f =
       let b = node-number h in
       let c = nodes-bound (omega arith) f in
-      record { some-number = omega arith; most-number = omega arith; low-place = omega arith }
-  bounds (goal n h) f =
-      let b = goal-number h in
+      record { some-number = omega arith; low-place = omega arith }
+  bounds (after i n p (goal-6 h)) f =
       let c = nodes-bound (omega arith) f in
-      record { some-number = omega arith; most-number = omega arith; low-place = omega arith }
+      record { some-number = omega arith; low-place = omega arith }
+  bounds (after i n p (goal-7 h)) f =
+      let c = nodes-bound (omega arith) f in
+      record { some-number = omega arith; low-place = omega arith }
 
   pub refusal-small : {r : Refusal} → refusalOf s ≡ some r → Small (r .number) (r .place)
   refusal-small {r} e = let a = refused-exactly s r .0 e in bounds (a .applies) (a .first)

@@ -1,6 +1,7 @@
 -- Rows 6 to 8 say what the reading's tests say, at each node and at the goal. Assumes nothing.
-use Prim.Native.Nat.{ℕ, zero, suc, _+_, _*_, _≤_, _<_}
+use Prim.Native.Nat.{ℕ, zero, suc, _+_, _-_, _*_, _≤_, _<_}
 use mathlib.Core.Path.{_≡_, refl, sym, ap, _∙_}
+use mathlib.Core.Logic.{_↔_}
 use mathlib.Core.Bool.{Bool, true, false, true≢false, _&&_}
 use mathlib.Core.List.{List, [], _∷_}
 use mathlib.Core.Option.{Option, none, some}
@@ -13,12 +14,16 @@ use Rattle.lists.proofs.FirstLaws.{first-pass, first-stop}
 use Rattle.lists.proofs.TestLaws.{both, and}
 use Rattle.lists.proofs.Decided.{denied}
 use Rattle.numbers.specs.declared.Refusal.{Refusal}
+use Rattle.numbers.specs.Bytes.{byteAt}
 use Rattle.numbers.proofs.NarrowLaws.{narrow-of, narrow-false}
 use Rattle.meaning.specs.declared.Sort.{Sort}
 use Rattle.meaning.specs.declared.Sort.the-variants.{Truth as truth}
 use Rattle.kinds.specs.declared.Record.{Record}
+use Rattle.kinds.specs.declared.Shape.{Shape}
+use Rattle.kinds.specs.declared.Shape.the-variants.{Wrong, Bare, Valued, Named, One, Two, Three}
+use Rattle.layout.specs.Limits.{nodePlace}
 use Rattle.layout.specs.Starts.{shapeAt, sortAt, operandsOf, sortsOf, unusedOf, startAt, Sorted, Typed, Placed}
-use Rattle.layout.specs.Parts.{nodeCount, variableCount, table}
+use Rattle.layout.specs.Parts.{nodeCount, variableCount, recordIn, table}
 use Rattle.refusals.specs.Said.{unless}
 use Rattle.order.specs.Order.{isKnown, inOrder, isListed, placed}
 use Rattle.order.proofs.OrderLaws.{decides-known, decides-ordered, decides-listed, placed-of}
@@ -28,8 +33,8 @@ use Rattle.findings.specs.Findings.{fitting}
 use Rattle.findings.specs.Steps.{sameSort}
 use Rattle.findings.proofs.FindingLaws.{decides-same}
 use Rattle.nodes.specs.Nodes.{findingAt, areSorted, typed, nodeRefusal, goalRefusal, goalAt, nodes}
-use Rattle.reading.specs.Rows.{Row6, unknown, unused, spare, misplaced, unlisted, Row7, Row8, GoalSubtree, GoalType, OfNode, row-6, row-7, row-8, OfGoal, goal-6, goal-7, node, goal}
-use Rattle.reading.proofs.Stages.{Stage, row, then, no-turn, of-node, of-goal}
+use Rattle.reading.specs.Rows.{UnusedZero, SpareZero, Row6, unknown, unused, spare, misplaced, unlisted, Row7, Row8, GoalSubtree, GoalType, OfNode, row-6, row-7, row-8, AfterNodes, goal-6, goal-7, node, after}
+use Rattle.reading.proofs.Stages.{endTurn, Stage, row, then, no-turn, of-node, of-after}
 
 -- the row of a number
 row6-in : {s : List ℕ} {n : ℕ} → OfNode s n 6 → Row6 s n
@@ -41,11 +46,38 @@ row7-in (row-7 h) = h
 row8-in : {s : List ℕ} {n : ℕ} → OfNode s n 8 → Row8 s n
 row8-in (row-8 h) = h
 
-subtree-in : {s : List ℕ} → OfGoal s 6 → GoalSubtree s
+subtree-in : {s : List ℕ} {m p : ℕ} → AfterNodes s 0 m p → GoalSubtree s
 subtree-in (goal-6 h) = h
 
-type-in : {s : List ℕ} → OfGoal s 7 → GoalType s
+type-in : {s : List ℕ} {m p : ℕ} → AfterNodes s 1 m p → GoalType s
 type-in (goal-7 h) = h
+
+-- ---- unused fields and bytes are zero exactly where their sum is
+unused-zero : (h : Shape) (r : Record) → (unusedOf h r ≡ 0) ↔ UnusedZero h r
+unused-zero Wrong r = (λ e. tt, λ z. refl)
+unused-zero Bare r = (λ e. omega arith, λ z. omega arith)
+unused-zero Valued r = (λ e. omega arith, λ z. omega arith)
+unused-zero Named r = (λ e. omega arith, λ z. omega arith)
+unused-zero (One s) r = (λ e. omega arith, λ z. omega arith)
+unused-zero (Two s t) r = (λ e. omega arith, λ z. omega arith)
+unused-zero (Three s t u) r = (λ e. e, λ z. z)
+
+spare-zero : (s : List ℕ) (i : ℕ) → (recordIn s i .spare ≡ 0) ↔ SpareZero s i
+spare-zero s i = (
+  λ e. (omega arith, λ j l h. go e j (j - 10) (omega arith) h),
+  λ z.
+      let t : (k : ℕ) → k ≤ 5 → byteAt s (i + (10 + k)) ≡ 0 = λ k l. z .1 (10 + k) (omega arith) (omega arith) in
+      omega (arith, z .0, t 0 (omega arith), t 1 (omega arith), t 2 (omega arith), t 3 (omega arith), t 4 (omega arith), t 5 (omega arith)),
+)
+  where
+    go : recordIn s i .spare ≡ 0 → (j k : ℕ) → j ≡ 10 + k → j ≤ 15 → byteAt s (i + j) ≡ 0
+    go e j zero q h = rw q (omega arith)
+    go e j (suc zero) q h = rw q (omega arith)
+    go e j (suc (suc zero)) q h = rw q (omega arith)
+    go e j (suc (suc (suc zero))) q h = rw q (omega arith)
+    go e j (suc (suc (suc (suc zero)))) q h = rw q (omega arith)
+    go e j (suc (suc (suc (suc (suc zero))))) q h = rw q (omega arith)
+    go e j (suc (suc (suc (suc (suc (suc k)))))) q h = absurd (omega arith)
 
 -- ---- sorts
 sorted-true : (so : ℕ → Sort) (xs : List ℕ) (ss : List Sort) → areSorted so xs ss ≡ true → Sorted so xs ss
@@ -83,8 +115,8 @@ module _ (s : List ℕ) where
         go (isKnown (shapeAt r)) (eqb (unusedOf (shapeAt r) r + r .spare) 0) (inOrder (startAt (table s)) n (operandsOf (shapeAt r) r)) (isListed (shapeAt r) r (variableCount s)) refl refl refl refl e
       where
         clear : Dec (unusedOf (shapeAt r) r ≡ 0) → (unusedOf (shapeAt r) r + r .spare ≡ 0 → ⊥) → Row6 s n
-        clear (yes p) h = spare (λ q. h (omega arith))
-        clear (no p) h = unused p
+        clear (yes p) h = spare (λ z. h (omega (arith, spare-zero s (nodePlace n) .1 z)))
+        clear (no p) h = unused (λ z. p (unused-zero (shapeAt r) r .1 z))
 
         go : (a b c d : Bool)
             → isKnown (shapeAt r) ≡ a
@@ -101,8 +133,8 @@ module _ (s : List ℕ) where
 
     row6-not : Placed (table s) (variableCount s) n → Row6 s n → ⊥
     row6-not p (unknown h) = h (p .known)
-    row6-not p (unused h) = h (let c = p .clear in omega arith)
-    row6-not p (spare h) = h (let c = p .clear in omega arith)
+    row6-not p (unused h) = h (unused-zero (shapeAt r) r .0 (let c = p .clear in omega arith))
+    row6-not p (spare h) = h (spare-zero s (nodePlace n) .0 (let c = p .clear in omega arith))
     row6-not p (misplaced h) = h (p .ordered)
     row6-not p (unlisted h) = h (p .listed)
 
@@ -151,17 +183,17 @@ module _ (s : List ℕ) where
       rw (first-suc k m) (then s _ _ (omega arith) (omega arith) (node-stage k (omega arith)) (λ d. rw e at (some-nodes m (suc k) (omega arith))))
 
   -- ---- the goal
-  goal-stage : Stage s (3 * nodeCount s + 6) (3 * nodeCount s + 8) (goalRefusal (startAt (table s) (goalAt s)) (sortAt (table s) (goalAt s)) (goalAt s))
+  goal-stage : Stage s (3 * nodeCount s + 6) (endTurn s) (goalRefusal (startAt (table s) (goalAt s)) (sortAt (table s) (goalAt s)) (goalAt s))
   goal-stage =
-      let a : Stage s (3 * nodeCount s + 6) (3 * nodeCount s + 6 + 1) (unless (eqb (startAt (table s) (goalAt s)) 0) 6 (goalAt s)) =
-      row s _ (3 * nodeCount s + 6) 6 (goalAt s) (λ e. goal 6 (goal-6 (eqb-false _ 0 e))) (λ e m p x. subtree-in (of-goal 6 (omega arith) refl x) (eqb-true _ 0 e)) in
-      let b : Stage s (3 * nodeCount s + 7) (3 * nodeCount s + 7 + 1) (unless (sameSort (sortAt (table s) (goalAt s)) truth) 7 (goalAt s)) =
-      row s _ (3 * nodeCount s + 7) 7 (goalAt s) (λ e. goal 7 (goal-7 (denied (decides-same _ truth) .0 e))) (λ e m p x. type-in (of-goal 7 (omega arith) refl x) (decides-same _ truth .0 e)) in
-      let p : 3 * nodeCount s + 6 + 1 ≡ 3 * nodeCount s + 7 = omega arith in
-      let q : 3 * nodeCount s + 7 + 1 ≡ 3 * nodeCount s + 8 = omega arith in
+      let a : Stage s (3 * nodeCount s + 6 + 0) (3 * nodeCount s + 6 + 0 + 1) (unless (eqb (startAt (table s) (goalAt s)) 0) 6 (goalAt s)) =
+      row s _ (3 * nodeCount s + 6 + 0) 6 (goalAt s) (λ e. after 0 6 (goalAt s) (goal-6 (eqb-false _ 0 e))) (λ e m p x. subtree-in (of-after 0 refl x) (eqb-true _ 0 e)) in
+      let b : Stage s (3 * nodeCount s + 6 + 1) (3 * nodeCount s + 6 + 1 + 1) (unless (sameSort (sortAt (table s) (goalAt s)) truth) 7 (goalAt s)) =
+      row s _ (3 * nodeCount s + 6 + 1) 7 (goalAt s) (λ e. after 1 7 (goalAt s) (goal-7 (denied (decides-same _ truth) .0 e))) (λ e m p x. type-in (of-after 1 refl x) (decides-same _ truth .0 e)) in
+      let p : 3 * nodeCount s + 6 + 0 ≡ 3 * nodeCount s + 6 = omega arith in
+      let q : 3 * nodeCount s + 6 + 1 + 1 ≡ endTurn s = omega arith in
       then s _ _ (omega arith) (omega arith) (rw p at a) (λ e. rw q at b)
 
-  pub nodes-stage : Stage s 6 (3 * nodeCount s + 8) (nodes s)
+  pub nodes-stage : Stage s 6 (endTurn s) (nodes s)
   unfolding nodes
   nodes-stage =
       let e : 0 + nodeCount s ≡ nodeCount s = omega arith in

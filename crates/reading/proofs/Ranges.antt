@@ -1,21 +1,18 @@
 -- In every case of an accepted sheet every integer node's value lies in its range, hence in 16 bits. Assumes nothing.
-use Prim.Native.Nat.{ℕ, _≤_, _<_}
+use Prim.Native.Nat.{ℕ, _<_}
 use mathlib.Core.Path.{_≡_, sym, ap, _∙_}
 use mathlib.Core.List.{List}
 use mathlib.Core.Option.{none}
-use native.Mathlib.Decide.{decLt}
-use native.Mathlib.Omega.{arith}
-use lib.IntN.{ℤ, pos}
-use lib.ListN.{length, List·getD-eq-default}
+use lib.IntN.{ℤ}
 use Rattle.numbers.specs.declared.Range.{Range}
 use Rattle.numbers.specs.Ranges.{Narrow, In}
-use Rattle.numbers.proofs.Sound.{one-in}
 use Rattle.numbers.proofs.NarrowLaws.{in-narrow}
 use Rattle.meaning.specs.declared.Sort.{Sort}
 use Rattle.meaning.specs.declared.Sort.the-variants.{Integer as integer}
 use Rattle.meaning.specs.Tree.{Tree}
 use Rattle.meaning.specs.Value.{value}
-use Rattle.meaning.specs.Rule.{Variable, Rule, noVariable, domainOf, Case, valueIn}
+use Rattle.meaning.specs.Rule.{domainOf, Case, valueIn}
+use Rattle.meaning.proofs.Listed.{in-every}
 use Rattle.layout.specs.Starts.{sortAt}
 use Rattle.layout.specs.Goal.{ofSort, treeAt}
 use Rattle.layout.specs.Parts.{nodeCount, table, ruleIn}
@@ -30,17 +27,6 @@ use Rattle.nodes.proofs.LoopLaws.{finding-sort}
 use Rattle.reading.specs.Cascade.{refusalOf}
 use Rattle.reading.proofs.RuleLaws.{accepted-sound, accepted-fits, finding-is}
 
--- a case gives every number a value of its domain: past the last variable 0, of 0..0
-pub case-in : {r : Rule} {c : List ℤ} → Case r c → (i : ℕ) → In (domainOf r i) (valueIn c i)
-case-in {r} {c} h i =
-    elim (decLt i (length c)) [
-      | yes l ↦ h .each i l
-      | no l ↦
-          let past : length c ≤ i = omega arith in
-          let gone : length (r .variables) ≤ i = omega (arith, h .all) in
-          rw (List·getD-eq-default c (pos 0) past, ap (λ (v : Variable). v .domain) (List·getD-eq-default (r .variables) noVariable gone)) (one-in (pos 0))
-    ]
-
 module _ (s : List ℕ) (e : refusalOf s ≡ none) {c : List ℤ} (h : Case (ruleIn s) c) {n : ℕ} (l : n < nodeCount s) {r : Range} (f : findingAt s n ≡ Integer r) where
   -- the value of node n, an integer, in the case
   abbrev pub nodeValue : ℤ
@@ -50,7 +36,7 @@ module _ (s : List ℕ) (e : refusalOf s ≡ none) {c : List ℤ} (h : Case (rul
   in-range =
       let sort : sortAt (table s) n ≡ integer = sym (finding-sort s n) ∙ ap sortOf f in
       let found : ofTree (findingOf (domainOf (ruleIn s))) (treeAt (table s) n .1) ≡ Integer r = sym (finding-is s (accepted-sound s e) n l) ∙ f in
-      found-in (case-in h) (ofSort integer (treeAt (table s) n)) (operand-as (λ (a : Sort) (t : Tree a). ofTree (findingOf (domainOf (ruleIn s))) t ≡ Integer r) (table s) n sort found)
+      found-in (in-every h) (ofSort integer (treeAt (table s) n)) (operand-as (λ (a : Sort) (t : Tree a). ofTree (findingOf (domainOf (ruleIn s))) t ≡ Integer r) (table s) n sort found)
 
   pub in-16-bits : Narrow nodeValue
   in-16-bits = in-narrow (range-fits f (accepted-fits s e n l)) in-range

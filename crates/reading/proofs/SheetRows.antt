@@ -16,7 +16,7 @@ use Rattle.layout.specs.Checks.{checkOf, content, storedCheck, blockRight}
 use Rattle.layout.specs.Parts.{edition, nodeCount, variableCount}
 use Rattle.refusals.specs.Said.{unless}
 use Rattle.refusals.proofs.SaidLaws.{unless-none, unless-some}
-use Rattle.blocks.specs.Early.{lengthRight, checkRefusal, checksRefusal, early}
+use Rattle.blocks.specs.Early.{lengthRight, blockRefusal, checksRefusal, early}
 use Rattle.blocks.proofs.EarlyLaws.{right-length, wrong-length}
 use Rattle.header.specs.Header.{countsRight, outsideClear, header}
 use Rattle.header.proofs.HeaderLaws.{counts-of, counts-at, outside-at}
@@ -70,9 +70,9 @@ module _ (s : List ℕ) where
         let q : t ≡ 2 = omega arith in
         let b = second-row (of-sheet (omega arith) (rw q at a)) in
         let l : p < 0 + length s / blockBytes = omega (arith, b .inside) in
-        b .wrong (right-is p (unless-none _ 2 p (first-none (checkRefusal s) (length s / blockBytes) 0 e p (omega arith) l)));
+        b .wrong (right-is p (unless-none _ 2 p (first-none (blockRefusal s) (length s / blockBytes) 0 e p (omega arith) l)));
     loud = λ r e.
-        let w = first-some (checkRefusal s) (length s / blockBytes) 0 e in
+        let w = first-some (blockRefusal s) (length s / blockBytes) 0 e in
         let u = unless-some (blockRight s (w .number)) 2 (w .number) (w .answers) in
         let high = w .high in
         let b : Row2 s (w .number) = record {

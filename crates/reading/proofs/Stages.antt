@@ -10,7 +10,11 @@ use Rattle.lists.specs.First.{_otherwise_}
 use Rattle.numbers.specs.declared.Refusal.{Refusal}
 use Rattle.layout.specs.Parts.{nodeCount}
 use Rattle.refusals.specs.Said.{unless}
-use Rattle.reading.specs.Rows.{OfSheet, row-1, row-2, row-3, row-4, row-5, OfNode, row-6, row-7, row-8, OfGoal, goal-6, goal-7, Applies, whole, node, goal}
+use Rattle.reading.specs.Rows.{OfSheet, row-1, row-2, row-3, row-4, row-5, OfNode, row-6, row-7, row-8, AfterNodes, goal-6, goal-7, Applies, whole, node, after}
+
+-- every row's turn is before this one
+abbrev pub endTurn : List ℕ → ℕ
+endTurn s = 3 * nodeCount s + 8
 
 -- o is what the rows answer whose turns are from lo up to hi: none of them applies, or the refusal is that of the first that does
 pub record Stage (s : List ℕ) (lo hi : ℕ) (o : Option Refusal) : Type 0 where
@@ -78,15 +82,15 @@ node-number (row-6 h) = omega arith
 node-number (row-7 h) = omega arith
 node-number (row-8 h) = omega arith
 
-pub goal-number : {s : List ℕ} {n : ℕ} → OfGoal s n → (6 ≤ n) × (n ≤ 7)
-goal-number (goal-6 h) = omega arith
-goal-number (goal-7 h) = omega arith
+pub after-rank : {s : List ℕ} {i n p : ℕ} → AfterNodes s i n p → 3 * nodeCount s + 6 + i < endTurn s
+after-rank (goal-6 h) = omega arith
+after-rank (goal-7 h) = omega arith
 
 -- a turn from 1 to 5 is the whole sheet's
 pub of-sheet : {s : List ℕ} {t n p : ℕ} → t ≤ 5 → Applies s t n p → OfSheet s t p
 of-sheet h (whole n p a) = a
 of-sheet h (node m n l a) = absurd (omega (arith, node-number a))
-of-sheet h (goal n a) = absurd (omega (arith, goal-number a))
+of-sheet h (after i n p a) = absurd (omega arith)
 
 -- the turns of node m
 pub of-node : {s : List ℕ} {t n p : ℕ} (m i : ℕ) → m < nodeCount s → 6 ≤ i → i ≤ 8 → t ≡ 3 * m + i → Applies s t n p → OfNode s m i
@@ -96,17 +100,15 @@ of-node {s} m i h k l e (node j n g a) =
     let p : j ≡ m = omega arith in
     let q : n ≡ i = omega arith in
     rw (p, q) at a
-of-node m i h k l e (goal n a) = absurd (omega (arith, goal-number a))
+of-node m i h k l e (after j n p a) = absurd (omega arith)
 
--- the turns of the goal
-pub of-goal : {s : List ℕ} {t n p : ℕ} (i : ℕ) → 6 ≤ i → t ≡ 3 * nodeCount s + i → Applies s t n p → OfGoal s i
-of-goal i k e (whole n p a) = absurd (omega (arith, sheet-number a))
-of-goal i k e (node j n g a) = absurd (omega (arith, node-number a))
-of-goal {s} i k e (goal n a) =
-    let q : n ≡ i = omega arith in
-    rw q at a
+-- the turns after all nodes
+pub of-after : {s : List ℕ} {t n p : ℕ} (i : ℕ) → t ≡ 3 * nodeCount s + 6 + i → Applies s t n p → AfterNodes s i n p
+of-after i e (whole n p a) = absurd (omega (arith, sheet-number a))
+of-after i e (node j n g a) = absurd (omega (arith, node-number a))
+of-after i e (after j n p a) = let q : j ≡ i = omega arith in rw q at a
 
-pub last-turn : {s : List ℕ} {t n p : ℕ} → Applies s t n p → (1 ≤ t) × (t < 3 * nodeCount s + 8)
-last-turn (whole n p a) = omega (arith, sheet-number a)
-last-turn (node j n g a) = omega (arith, node-number a)
-last-turn (goal n a) = omega (arith, goal-number a)
+pub turn-inside : {s : List ℕ} {t n p : ℕ} → Applies s t n p → (1 ≤ t) × (t < endTurn s)
+turn-inside (whole n p a) = omega (arith, sheet-number a)
+turn-inside (node j n g a) = omega (arith, node-number a)
+turn-inside (after i n p a) = omega (arith, after-rank a)

@@ -1,5 +1,5 @@
 -- Document 01's table "When a sheet is turned away", rows 1 to 8, as propositions, and their order. Nothing here is a test of the reading's own.
-use Prim.Native.Nat.{ℕ, _+_, _-_, _*_, _%_, _<_}
+use Prim.Native.Nat.{ℕ, _+_, _-_, _*_, _%_, _≤_, _<_}
 use mathlib.Core.Path.{_≡_}
 use mathlib.Core.List.{List}
 use lib.ListN.{length}
@@ -8,10 +8,13 @@ use Rattle.numbers.specs.declared.Refusal.{Refusal}
 use Rattle.numbers.specs.Bytes.{byteAt}
 use Rattle.numbers.specs.Ranges.{NarrowEnds}
 use Rattle.meaning.specs.declared.Sort.the-variants.{Truth}
+use Rattle.kinds.specs.declared.Record.{Record}
+use Rattle.kinds.specs.declared.Shape.{Shape}
+use Rattle.kinds.specs.declared.Shape.the-variants.{Wrong, Bare, Valued, Named, One, Two, Three}
 use Rattle.kinds.specs.Rows.{Known}
-use Rattle.layout.specs.Limits.{blockBytes, mostBlocks, mostNodes, mostVariables, blocksFor}
+use Rattle.layout.specs.Limits.{blockBytes, mostBlocks, mostNodes, mostVariables, blocksFor, nodePlace}
 use Rattle.layout.specs.Checks.{checkOf, content, storedCheck, Inside}
-use Rattle.layout.specs.Starts.{shapeAt, sortAt, operandsOf, unusedOf, startAt, Ordered, Listed, Typed}
+use Rattle.layout.specs.Starts.{shapeAt, sortAt, operandsOf, startAt, Ordered, Listed, Typed}
 use Rattle.layout.specs.Parts.{edition, nodeCount, variableCount, table}
 use Rattle.header.specs.MustBeZero.{MustBeZero}
 use Rattle.records.specs.Names.{LowestBroken}
@@ -46,11 +49,25 @@ pub data Row4 (s : List ℕ) : Type 0 where
 abbrev pub Row5 : List ℕ → ℕ → Type 0
 Row5 s i = LowestBroken s i
 
+-- the fields that a kind of the shape doesn't use are zero
+abbrev pub UnusedZero : Shape → Record → Type 0
+UnusedZero Wrong r = Unit {0}
+UnusedZero Bare r = (r .a ≡ 0) × (r .b ≡ 0) × (r .c ≡ 0) × (r .value ≡ 0)
+UnusedZero Valued r = (r .a ≡ 0) × (r .b ≡ 0) × (r .c ≡ 0)
+UnusedZero Named r = (r .b ≡ 0) × (r .c ≡ 0) × (r .value ≡ 0)
+UnusedZero (One s) r = (r .b ≡ 0) × (r .c ≡ 0) × (r .value ≡ 0)
+UnusedZero (Two s t) r = (r .c ≡ 0) × (r .value ≡ 0)
+UnusedZero (Three s t u) r = r .value ≡ 0
+
+-- bytes 1 and 10..15 of the node record at place i are zero
+abbrev pub SpareZero : List ℕ → ℕ → Type 0
+SpareZero s i = (byteAt s (i + 1) ≡ 0) × ((j : ℕ) → 10 ≤ j → j ≤ 15 → byteAt s (i + j) ≡ 0)
+
 -- 6: unknown kind, unused field or byte not zero, operand not where the order puts it or the order has no node there, variable not below V
 pub data Row6 (s : List ℕ) (n : ℕ) : Type 0 where
   unknown : (Known (shapeAt (table s n)) → ⊥) → Row6 s n
-  unused : (unusedOf (shapeAt (table s n)) (table s n) ≡ 0 → ⊥) → Row6 s n
-  spare : (table s n .spare ≡ 0 → ⊥) → Row6 s n
+  unused : (UnusedZero (shapeAt (table s n)) (table s n) → ⊥) → Row6 s n
+  spare : (SpareZero s (nodePlace n) → ⊥) → Row6 s n
   misplaced : (Ordered (startAt (table s)) n (operandsOf (shapeAt (table s n)) (table s n)) → ⊥) → Row6 s n
   unlisted : (Listed (shapeAt (table s n)) (table s n) (variableCount s) → ⊥) → Row6 s n
 
@@ -84,15 +101,16 @@ pub data OfNode (s : List ℕ) (n : ℕ) : (number : ℕ) → Type 0 where
   row-7 : Row7 s n → OfNode s n 7
   row-8 : Row8 s n → OfNode s n 8
 
-pub data OfGoal (s : List ℕ) : (number : ℕ) → Type 0 where
-  goal-6 : GoalSubtree s → OfGoal s 6
-  goal-7 : GoalType s → OfGoal s 7
+-- after all nodes the rows come by rank
+pub data AfterNodes (s : List ℕ) : (rank number place : ℕ) → Type 0 where
+  goal-6 : GoalSubtree s → AfterNodes s 0 6 (nodeCount s - 1)
+  goal-7 : GoalType s → AfterNodes s 1 7 (nodeCount s - 1)
 
--- the order: 1 to 5 by number, over the whole sheet; then nodes from 0 up, at each 6, 7, 8; after all nodes the goal. A row that applies has its turn.
+-- the order: 1 to 5 by number, over the whole sheet; then nodes from 0 up, at each 6, 7, 8; after all nodes by rank. A row that applies has its turn.
 pub data Applies (s : List ℕ) : (turn number place : ℕ) → Type 0 where
   whole : (number place : ℕ) → OfSheet s number place → Applies s number number place
   node : (n number : ℕ) → n < nodeCount s → OfNode s n number → Applies s (3 * n + number) number n
-  goal : (number : ℕ) → OfGoal s number → Applies s (3 * nodeCount s + number) number (nodeCount s - 1)
+  after : (rank number place : ℕ) → AfterNodes s rank number place → Applies s (3 * nodeCount s + 6 + rank) number place
 
 -- the row applies, and none whose turn is earlier does
 pub record Answer (s : List ℕ) (r : Refusal) : Type 0 where

@@ -1,1 +1,2 @@
 pub mod SaidLaws
+pub mod AfterLaws

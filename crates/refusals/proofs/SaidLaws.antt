@@ -1,4 +1,4 @@
--- What an answer says decides the answer; and when a row refuses. Assumes nothing.
+-- What an answer says decides the answer; a refusal is its number and its place; and when a row refuses. Assumes nothing.
 use Prim.Native.Nat.{ℕ}
 use mathlib.Core.Path.{_≡_, refl, sym, ap, _∙_}
 use mathlib.Core.Bool.{Bool, true, false}
@@ -25,6 +25,10 @@ said-injective r t e = sym (as-said r) ∙ ap asReading e ∙ as-said t
 -- no second answer says the same
 pub said-once : {x : Option Refusal} (r t : Reading) → saidOf r ≡ x → saidOf t ≡ x → r ≡ t
 said-once r t e d = said-injective r t (e ∙ sym d)
+
+-- a refusal is its number and its place
+pub same-refusal : {r q : Refusal} → r .number ≡ q .number → r .place ≡ q .place → r ≡ q
+same-refusal e d = λ i. record { number = e i; place = d i }
 
 -- a row is silent exactly where its demand is met
 pub unless-none : (b : Bool) (n p : ℕ) → unless b n p ≡ none → b ≡ true

@@ -1,3 +1,4 @@
 pub mod ScriptLaws
 pub mod WritesLaws
 pub mod Unique
+pub mod Exact

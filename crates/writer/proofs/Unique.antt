@@ -5,12 +5,10 @@ use mathlib.Core.Logic.{_↔_}
 use mathlib.Core.List.{List}
 use mathlib.Core.Option.{Option, none, some}
 use native.Mathlib.Omega.{arith}
-use borrow.Author.Tests.{leb-true, le-leb, lt-leb}
 use lib.ListN.{length}
-use Rattle.lists.proofs.FirstLaws.{neither, otherwise-none}
 use Rattle.numbers.specs.declared.Refusal.{Refusal}
 use Rattle.layout.specs.Parts.{ruleIn}
-use Rattle.refusals.proofs.SaidLaws.{unless-none, unless-true, unless-false}
+use Rattle.refusals.proofs.AfterLaws.{passes, passed, stops}
 use Rattle.reading.specs.Cascade.{refusalOf}
 use Rattle.wording.specs.Script.{script}
 use Rattle.writer.specs.declared.Written.{Written}
@@ -38,15 +36,12 @@ write-once {s} {before} {x} {y} {r} {t} h g = (written-injective r t (h .answer 
 module _ (s : List ℕ) (room : ℕ) where
   pub written-exactly : (scriptRefusal s room ≡ none) ↔ ((refusalOf s ≡ none) × (length (script (ruleIn s)) ≤ room))
   unfolding scriptRefusal
-  written-exactly = (to, λ w. otherwise-none _ (w .0) ∙ unless-true 9 _ (le-leb _ _ (w .1)))
-    where
-      to : scriptRefusal s room ≡ none → (refusalOf s ≡ none) × (length (script (ruleIn s)) ≤ room)
-      to e = let w = neither (refusalOf s) _ e in (w .0, leb-true (length (script (ruleIn s))) room (unless-none _ 9 _ (w .1)))
+  written-exactly = (passed _ _ _ _ _, λ w. passes _ _ _ _ (w .0) (w .1))
 
   -- 9 at the bytes needed where the room is shorter
   pub short-room : refusalOf s ≡ none → room < length (script (ruleIn s)) → scriptRefusal s room ≡ some (record { number = 9; place = length (script (ruleIn s)) })
   unfolding scriptRefusal
-  short-room e l = otherwise-none _ e ∙ unless-false 9 _ (lt-leb (length (script (ruleIn s))) room l)
+  short-room e l = stops _ _ _ _ e l
 
   -- a room of enough bytes is enough for every accepted sheet
   pub enough : refusalOf s ≡ none → enoughRoom ≤ room → scriptRefusal s room ≡ none

@@ -5,16 +5,15 @@ use mathlib.Core.List.{List}
 use mathlib.Core.Option.{Option, none, some}
 use native.Mathlib.Nat.{zero-add}
 use native.Mathlib.Omega.{arith}
-use borrow.Author.Tests.{le-leb, lt-leb}
 use lib.ListN.{length, take, drop, length-append}
 use lib.Seq.{length-take-le}
-use Rattle.lists.proofs.FirstLaws.{otherwise-none, otherwise-some}
+use Rattle.lists.proofs.FirstLaws.{otherwise-some}
 use Rattle.numbers.specs.declared.Refusal.{Refusal}
 use Rattle.layout.specs.Parts.{ruleIn}
 use Rattle.refusals.specs.declared.Reading.{Reading}
 use Rattle.refusals.specs.declared.Reading.the-variants.{Accepted, Refused as refused}
 use Rattle.refusals.specs.Said.{saidOf}
-use Rattle.refusals.proofs.SaidLaws.{unless-true, unless-false}
+use Rattle.refusals.proofs.AfterLaws.{passes, stops}
 use Rattle.reading.specs.Cascade.{refusalOf}
 use Rattle.wording.specs.Script.{script}
 use Rattle.room.specs.Room.{over, Wrote}
@@ -38,12 +37,12 @@ module _ (s : List ℕ) where
   module _ (ok : refusalOf s ≡ none) where
     pub room-short : (before : List ℕ) {n : ℕ} → n ≡ length (script (ruleIn s)) → length before < n → Writes s before (Refused (record { number = 9; place = n })) before
     unfolding scriptRefusal
-    room-short before e l = refused-with before (otherwise-none _ ok ∙ unless-false 9 _ (lt-leb (length (script (ruleIn s))) (length before) (omega arith)) ∙ ap (λ (n : ℕ). some (record { number = 9; place = n })) (sym e))
+    room-short before e l = refused-with before (stops (length (script (ruleIn s))) (length before) 9 _ ok (omega arith) ∙ ap (λ (n : ℕ). some (record { number = 9; place = n })) (sym e))
 
     pub script-written : {before after : List ℕ} {n : ℕ} → length (script (ruleIn s)) ≤ length before → Wrote (script (ruleIn s)) before after 0 n → Writes s before (Script n) after
     unfolding scriptRefusal
     script-written {before} {after} l w =
-        let d : scriptRefusal s (length before) ≡ none = otherwise-none _ ok ∙ unless-true 9 _ (le-leb _ _ l) in
+        let d : scriptRefusal s (length before) ≡ none = passes (length (script (ruleIn s))) (length before) 9 _ ok l in
         record {
           answer = ap (λ (k : ℕ). (none, k)) (w .place ∙ zero-add _) ∙ ap (λ (o : Option Refusal). verdict o (script (ruleIn s))) (sym d);
           room = wrote-over w ∙ ap (λ (o : Option Refusal). roomAfter o (script (ruleIn s)) before) (sym d);

@@ -1,2 +1,3 @@
 pub mod Ending
 pub mod Writes
+pub mod Rows

@@ -7,13 +7,13 @@ use native.Mathlib.Nat.{sub-zero}
 use Rattle.lists.specs.First.{first}
 use Rattle.lists.proofs.FirstLaws.{left-pass, left-stop, left-done}
 use Rattle.refusals.proofs.SaidLaws.{unless-true, unless-false}
-use Rattle.blocks.specs.Early.{checkRefusal}
+use Rattle.blocks.specs.Early.{blockRefusal}
 use Rattle.blocks.proofs.checks.Statement.{statement}
 use Rattle.blocks.proofs.checks.Tie as tie
 
 abbrev Inv-loop : tie.InvT-loop
 Inv-loop sheet n k₀ k =
-    (k ≤ n) × (first (checkRefusal sheet) 0 n ≡ first (checkRefusal sheet) k (n - k))
+    (k ≤ n) × (first (blockRefusal sheet) 0 n ≡ first (blockRefusal sheet) k (n - k))
 
 abbrev μ-loop : tie.MeasureT-loop
 μ-loop sheet n k₀ k = n - k
