@@ -1,6 +1,5 @@
 // The C interface: the calls on numbers and slices, each answer one number. See include/ragwashin.h.
 ghost use mathlib.Core.Path.{_≡_};
-ghost use mathlib.Core.Option.{some};
 ghost use Prim.Native.Nat.{_<_, _^_};
 ghost use Rattle.capi.specs.Codes.{readCode, nameCode, blockCode, refusalCode, CheckCodes, tallyCode, ScriptCodes};
 use cases::Checked;
@@ -56,7 +55,7 @@ pub extern "C" fn ragwashin_block(sheet: &[u8], k: u64) -> u64
 // A refusal as one number.
 fn refusal_code(refusal: Refusal) -> u64
     requires { ⌜ refusal .place < 2 ^ 48 ⌝ }
-    ensures { λ r. ⌜ r ≡ refusalCode (some refusal) ⌝ }
+    ensures { λ r. ⌜ r ≡ refusalCode refusal ⌝ }
 {
     refusal.number as u64 * NUMBER + refusal.place as u64
 }
