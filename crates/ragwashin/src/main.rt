@@ -21,28 +21,11 @@ enum Word {
     Asks(Request),
 }
 
-// Whether two texts are the same, byte for byte.
-fn same_text(a: &[u8], b: &[u8]) -> bool
-    ensures { λ r. ⌜ r ≡ sameBytes (now (a .entry)) (now (b .entry)) ⌝ }
-{
-    if a.len() != b.len() {
-        return false;
-    }
-    let mut i = 0;
-    while i < a.len() {
-        if a[i] != b[i] {
-            return false;
-        }
-        i += 1;
-    }
-    true
-}
-
 // What a text means: this, where it is the word, or else what it means without that word.
 fn meaning(text: &[u8], word: &[u8], this: Word, other: Word) -> Word
     ensures { λ r. ⌜ r ≡ meant (sameBytes (now (text .entry)) (now (word .entry))) this other ⌝ }
 {
-    if same_text(text, word) {
+    if records::same_bytes(text, word) {
         return this;
     }
     other

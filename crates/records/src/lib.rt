@@ -67,8 +67,8 @@ fn name_right(name: &[u8]) -> bool
     true
 }
 
-// Whether two names are the same, byte for byte.
-fn same_bytes(a: &[u8], b: &[u8]) -> bool
+// Whether two texts are the same, byte for byte.
+pub fn same_bytes(a: &[u8], b: &[u8]) -> bool
     ensures { λ r. ⌜ r ≡ sameBytes (now (a .entry)) (now (b .entry)) ⌝ }
 {
     if a.len() != b.len() {
