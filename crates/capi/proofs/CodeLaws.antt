@@ -100,10 +100,10 @@ module _ (s : List ℕ) where
         go true q d = absurd (let l = given-size i q .0 in omega arith)
         go false q d = refl
 
-    pub some-name : (size ≡ 0 → ⊥) → (14 + 24 * i) * 65536 + size ≡ nameCode s i
-    some-name z = go (nameGiven s i) refl e
+    pub some-name : {place : ℕ} → place ≡ variablePlace i → (size ≡ 0 → ⊥) → (place + nameStart) * 65536 + size ≡ nameCode s i
+    some-name {place} p z = go (nameGiven s i) refl e
       where
-        go : (b : Bool) → nameGiven s i ≡ b → size ≡ cond b (nameSize s (variablePlace i)) 0 → (14 + 24 * i) * 65536 + size ≡ cond b ((variablePlace i + nameStart) * 65536 + nameSize s (variablePlace i)) 0
+        go : (b : Bool) → nameGiven s i ≡ b → size ≡ cond b (nameSize s (variablePlace i)) 0 → (place + nameStart) * 65536 + size ≡ cond b ((variablePlace i + nameStart) * 65536 + nameSize s (variablePlace i)) 0
         go true q d = omega arith
         go false q d = absurd (z d)
 
