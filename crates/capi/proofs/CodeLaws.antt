@@ -54,9 +54,13 @@ module _ (s : List ℕ) {a : Reading} (e : saidOf a ≡ refusalOf s) where
   pub place-small : {r : Refusal} → a ≡ Refused r → r .place < mostNodes
   place-small d = refusal-small s (sym e ∙ ap saidOf d) .low-place
 
+nothing : (o : Option Refusal) → unlessRefused o 0 ≡ 0
+nothing none = refl
+nothing (some r) = refl
+
 module _ (s : List ℕ) where
-  pub read-tells : codeSaid (readCode s) ≡ (refusalOf s, unlessRefused (refusalOf s) 0)
-  read-tells = code-tells (refusalOf s) 0 small (λ e. omega arith)
+  pub read-tells : codeSaid (readCode s) ≡ (refusalOf s, 0)
+  read-tells = code-tells (refusalOf s) 0 small (λ e. omega arith) ∙ ap (λ (n : ℕ). (refusalOf s, n)) (nothing (refusalOf s))
     where
       small : (r : Refusal) → refusalOf s ≡ some r → (1 ≤ r .number) × (r .place < 2 ^ 48)
       small r e = let b = refusal-small s e in (b .some-number, omega (arith, b .low-place))
