@@ -34,7 +34,7 @@ use Rattle.reading.proofs.Change.{changed-byte}
 use Rattle.odometer.specs.Limit.{mostCases, caseCount}
 use Rattle.cases.specs.declared.Checked.the-variants.{Fails}
 use Rattle.cases.specs.Checks.{tryRefusal, checkRefusal}
-use Rattle.cases.proofs.Exact.{tally-none, check-none}
+use Rattle.cases.proofs.Exact.{tally-none, tally-exactly, check-none, check-exactly}
 use Rattle.cases.proofs.Agreement.{fails-exactly, holds-exactly, room-fails}
 use Rattle.smtlib.specs.Values.{bitVec}
 use Rattle.smtlib.specs.Commands.{Declaration}
@@ -50,12 +50,16 @@ use Rattle.wording.proofs.MeansClaims.{WidthHolds}
 use Rattle.wording.proofs.MeansMatch.{one-case}
 use Rattle.wording.proofs.MeansScript.{form-means, held16}
 use Rattle.writer.proofs.ScriptLaws.{script-short}
+use Rattle.writer.proofs.Exact.{script-exactly}
 use Rattle.agreement.specs.Statements as promise
 use Rattle.agreement.specs.Statements.{Sheet, settingOf, symbols, Matched, Listed}
 
 -- ---- demand 1
 pub refused-by-row : promise.RefusedExactly
 refused-by-row s = (refused-exactly s, accepted-exactly s)
+
+pub calls-refused-by-row : promise.CallsRefusedExactly
+calls-refused-by-row s room r = (tally-exactly s r, check-exactly s room r, script-exactly s room r)
 
 module _ {s : List ℕ} (h : Sheet s) where
   accepts : refusalOf s ≡ none

@@ -24,8 +24,9 @@ use Rattle.odometer.specs.Limit.{mostCases, caseCount}
 use Rattle.cases.specs.declared.Checked.{Checked}
 use Rattle.cases.specs.declared.Checked.the-variants.{Holds, Fails}
 use Rattle.cases.specs.declared.Tallied.{Tallied}
-use Rattle.cases.specs.Checks.{Checks}
+use Rattle.cases.specs.Checks.{tryRefusal, checkRefusal, Checks}
 use Rattle.cases.specs.Tallies.{Tallies}
+use Rattle.cases.specs.Rows.{TallyRow, CheckRow}
 use Rattle.smtlib.specs.Tokens.{numeral}
 use Rattle.smtlib.specs.Values.{bitVec}
 use Rattle.smtlib.specs.Terms.{numberOf}
@@ -37,7 +38,8 @@ use Rattle.wording.specs.Script.{script}
 use Rattle.wording.proofs.Forms.{Form, scriptBy}
 use Rattle.wording.proofs.Bits.{bitsLiteral}
 use Rattle.wording.proofs.MeansClaims.{WidthHolds}
-use Rattle.writer.specs.Writes.{enoughRoom}
+use Rattle.writer.specs.Writes.{scriptRefusal, enoughRoom}
+use Rattle.writer.specs.Rows.{ScriptRow}
 
 -- an accepted sheet: bytes to which no row of the table of refusals applies
 pub record Sheet (s : List ℕ) : Type 0 where
@@ -47,6 +49,14 @@ pub record Sheet (s : List ℕ) : Type 0 where
 -- ---- demand 1: any bytes; exactly the number and place of the table, and nothing refused without that cause
 abbrev pub RefusedExactly : Type 0
 RefusedExactly = (s : List ℕ) → ((r : Refusal) → (refusalOf s ≡ some r) ↔ Answer s r) × ((refusalOf s ≡ none) ↔ Accepted s)
+
+-- 10 and 9, for the calls that give them: the tally, the check with so many numbers of room, the writer with so many bytes
+abbrev pub CallsRefusedExactly : Type 0
+CallsRefusedExactly =
+    (s : List ℕ) (room : ℕ) (r : Refusal)
+    → ((tryRefusal s ≡ some r) ↔ TallyRow s (r .number) (r .place))
+    × ((checkRefusal s room ≡ some r) ↔ CheckRow s room (r .number) (r .place))
+    × ((scriptRefusal s room ≡ some r) ↔ ScriptRow s room (r .number) (r .place))
 
 -- an accepted sheet is what the layout writes of its rule, and each rule that is allowed has such a sheet
 abbrev pub SheetOfRule : Type 0

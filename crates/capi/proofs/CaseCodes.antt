@@ -1,7 +1,7 @@
 -- The numbers that the check and the tally give in C tell their answers. Assumes nothing.
-use Prim.Native.Nat.{ℕ, _+_, _*_, _/_, _%_, _^_, _<_}
+use Prim.Native.Nat.{ℕ, _+_, _*_, _/_, _%_, _^_, _≤_, _<_}
 use mathlib.Core.Path.{_≡_, refl, sym, ap, ap₂, _∙_}
-use mathlib.Core.Bool.{Bool, false}
+use mathlib.Core.Bool.{Bool, true, false}
 use mathlib.Core.List.{List}
 use mathlib.Core.Option.{Option, none, some}
 use native.Mathlib.Omega.{arith}
@@ -17,11 +17,24 @@ use Rattle.refusals.specs.Said.{saidOf}
 use Rattle.cases.specs.declared.Checked.{Checked}
 use Rattle.cases.specs.declared.Checked.the-variants.{Refused}
 use Rattle.cases.specs.declared.Tallied.{Tallied}
-use Rattle.cases.specs.Checks.{tryRefusal, checkRefusal, checkedSaid, verdict, Checks}
+use Rattle.cases.specs.Checks.{tryRefusal, checkRefusal, checkedSaid, isSome, verdict, Checks}
 use Rattle.cases.specs.Tallies.{unlessRefused, Tallies}
 use Rattle.cases.proofs.Exact.{tally-small, check-small}
 use Rattle.cases.proofs.TryLaws.{few-cases}
-use Rattle.capi.specs.Codes.{refusalCode, verdictCode, CheckCodes, tallyBy, tallyCode}
+use Rattle.capi.specs.Codes.{refusalCode, codeOf, codeSaid, failsCode, CheckCodes, countsCode, tallyCode}
+use Rattle.capi.proofs.CodeLaws.{code-tells}
+
+-- the code of an answer, and that of what decides it
+abbrev verdictCode : Option Refusal × Bool → ℕ
+verdictCode v = codeOf (v .0) (failsCode (v .1))
+
+verdict-code : (o : Option Refusal) (c : Option (List ℤ)) → verdictCode (verdict o c) ≡ codeOf o (failsCode (isSome c))
+verdict-code none c = refl
+verdict-code (some r) c = refl
+
+fails-small : (b : Bool) → failsCode b < 2 ^ 48
+fails-small true = omega arith
+fails-small false = omega arith
 
 module _ (s : List ℕ) where
   -- ---- the check, by its answer
@@ -30,7 +43,7 @@ module _ (s : List ℕ) where
     answer-is e = sym (c .answer) ∙ e
 
     pub checked-code : {n : ℕ} {v : Option Refusal × Bool} → checkedSaid a ≡ v → n ≡ verdictCode v → CheckCodes s before n after
-    checked-code e d = record { code = d ∙ ap verdictCode (sym (answer-is e)); room = c .room }
+    checked-code e d = record { code = d ∙ ap verdictCode (sym (answer-is e)) ∙ verdict-code (checkRefusal s (length before)) (firstFailure (ruleIn s)); room = c .room }
 
     pub checked-place : {r : Refusal} → a ≡ Refused r → r .place < mostNodes
     checked-place {r} d = go (checkRefusal s (length before)) refl (answer-is (ap checkedSaid d))
@@ -39,13 +52,20 @@ module _ (s : List ℕ) where
         go none q w = absurd (let z : _≡_ {A = ℕ} 0 1 = cc (ap (λ (p : Option Refusal × Bool). p .0) w) in omega arith)
         go (some t) q w = check-small s (length before) (q ∙ ap (λ (p : Option Refusal × Bool). p .0) w) .low-place
 
+  -- the refusal, or 0 where the rule holds and 1 where it fails
+  pub check-tells : {before after : List ℤ} {r : ℕ} → CheckCodes s before r after → codeSaid r ≡ (checkRefusal s (length before), unlessRefused (checkRefusal s (length before)) (failsCode (isSome (firstFailure (ruleIn s)))))
+  check-tells {before} c = ap codeSaid (c .code) ∙ code-tells _ _ small (λ e. fails-small (isSome (firstFailure (ruleIn s))))
+    where
+      small : (r : Refusal) → checkRefusal s (length before) ≡ some r → (1 ≤ r .number) × (r .place < 2 ^ 48)
+      small r e = let b = check-small s (length before) e in (b .some-number, omega (arith, b .low-place))
+
   -- ---- the tally
   module _ {t : Tallied} (c : Tallies s t) where
     pub tally-place : {r : Refusal} → t .reading ≡ Turned r → r .place < mostNodes
     tally-place d = tally-small s (sym (c .answer) ∙ ap saidOf d) .low-place
 
-    pub tally-refused : {r : Refusal} → t .reading ≡ Turned r → refusalCode (some r) ≡ tallyCode s
-    tally-refused d = ap (λ (o : Option Refusal). tallyBy o (held (ruleIn s)) (failed (ruleIn s))) (sym (ap saidOf d) ∙ c .answer)
+    pub tally-refused : {r : Refusal} → t .reading ≡ Turned r → refusalCode r ≡ tallyCode s
+    tally-refused d = ap (λ (o : Option Refusal). codeOf o (countsCode (held (ruleIn s)) (failed (ruleIn s)))) (sym (ap saidOf d) ∙ c .answer)
 
     tried : t .reading ≡ Accepted → tryRefusal s ≡ none
     tried d = sym (c .answer) ∙ ap saidOf d
@@ -55,13 +75,21 @@ module _ (s : List ℕ) where
         let e = tried d in
         let h : t .held ≡ held (ruleIn s) = c .held-count ∙ ap (λ (o : Option Refusal). unlessRefused o (held (ruleIn s))) e in
         let f : t .failed ≡ failed (ruleIn s) = c .failed-count ∙ ap (λ (o : Option Refusal). unlessRefused o (failed (ruleIn s))) e in
-        ap₂ (λ (a b : ℕ). a * 2 ^ 24 + b) h f ∙ ap (λ (o : Option Refusal). tallyBy o (held (ruleIn s)) (failed (ruleIn s))) (sym e)
+        ap₂ countsCode h f ∙ ap (λ (o : Option Refusal). codeOf o (countsCode (held (ruleIn s)) (failed (ruleIn s)))) (sym e)
 
-  -- both counts are told from the code, and it is below that of every refusal
-  pub tally-tells : tryRefusal s ≡ none → (tallyCode s / 2 ^ 24 ≡ held (ruleIn s)) × (tallyCode s % 2 ^ 24 ≡ failed (ruleIn s)) × (tallyCode s < 2 ^ 48)
-  tally-tells e =
+  -- both counts are told by quotient and rest, and are below 2^24
+  counts : tryRefusal s ≡ none → (countsCode (held (ruleIn s)) (failed (ruleIn s)) / 2 ^ 24 ≡ held (ruleIn s)) × (countsCode (held (ruleIn s)) (failed (ruleIn s)) % 2 ^ 24 ≡ failed (ruleIn s)) × (countsCode (held (ruleIn s)) (failed (ruleIn s)) < 2 ^ 48)
+  counts e =
       let n = few-cases s e in
       let b = held-failed (ruleIn s) in
       let l = case-count (ruleIn s) in
-      let c : tallyCode s ≡ held (ruleIn s) * 2 ^ 24 + failed (ruleIn s) = ap (λ (o : Option Refusal). tallyBy o (held (ruleIn s)) (failed (ruleIn s))) e in
       (omega arith, omega arith, omega arith)
+
+  pub tally-tells : codeSaid (tallyCode s) ≡ (tryRefusal s, unlessRefused (tryRefusal s) (countsCode (held (ruleIn s)) (failed (ruleIn s))))
+  tally-tells = code-tells _ _ small (λ e. counts e .2)
+    where
+      small : (r : Refusal) → tryRefusal s ≡ some r → (1 ≤ r .number) × (r .place < 2 ^ 48)
+      small r e = let b = tally-small s e in (b .some-number, omega (arith, b .low-place))
+
+  pub counts-tell : tryRefusal s ≡ none → (codeSaid (tallyCode s) .1 / 2 ^ 24 ≡ held (ruleIn s)) × (codeSaid (tallyCode s) .1 % 2 ^ 24 ≡ failed (ruleIn s))
+  counts-tell e = let w = counts e in rw (tally-tells, e) (w .0, w .1)

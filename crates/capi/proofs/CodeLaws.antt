@@ -1,6 +1,6 @@
 -- The numbers of the C interface tell the answers, and where the returned parts lie. Assumes nothing.
-use Prim.Native.Nat.{ℕ, _+_, _*_, _/_, _%_, _^_, _≤_, _<_}
-use mathlib.Core.Path.{_≡_, refl, sym, ap, _∙_}
+use Prim.Native.Nat.{ℕ, zero, suc, _+_, _*_, _/_, _%_, _^_, _≤_, _<_}
+use mathlib.Core.Path.{_≡_, refl, sym, ap, ap₂, _∙_}
 use mathlib.Core.Bool.{Bool, true, false, cond, false≢true}
 use mathlib.Core.List.{List}
 use mathlib.Core.Option.{Option, none, some}
@@ -22,31 +22,48 @@ use Rattle.reading.specs.Cascade.{refusalOf}
 use Rattle.reading.specs.Name.{isNone, nameGiven, NamePart}
 use Rattle.reading.proofs.RuleLaws.{accepted-counted, accepted-kept}
 use Rattle.reading.proofs.Bounds.{refusal-small}
-use Rattle.capi.specs.Codes.{refusalCode, readCode, nameCode, blockCode}
+use Rattle.cases.specs.Tallies.{unlessRefused}
+use Rattle.capi.specs.Codes.{refusalCode, codeOf, saidBy, codeSaid, readCode, nameCode, blockCode}
+
+-- ---- what a code says
+said-refused : (n p : ℕ) → 1 ≤ n → saidBy n p ≡ (some (record { number = n; place = p }), 0)
+said-refused zero p h = absurd (omega arith)
+said-refused (suc n) p h = refl
+
+-- a refusal of number 1 or more whose place is below 2^48, and an answer below 2^48, are told from the code
+pub code-tells : (o : Option Refusal) (n : ℕ) → ((r : Refusal) → o ≡ some r → (1 ≤ r .number) × (r .place < 2 ^ 48)) → (o ≡ none → n < 2 ^ 48) → codeSaid (codeOf o n) ≡ (o, unlessRefused o n)
+code-tells none n refused answered =
+    let h = answered refl in
+    let q : n / 2 ^ 48 ≡ 0 = omega arith in
+    let m : n % 2 ^ 48 ≡ n = omega arith in
+    ap₂ saidBy q m
+code-tells (some r) n refused answered =
+    let h = refused r refl in
+    let q : refusalCode r / 2 ^ 48 ≡ r .number = omega (arith, h .1) in
+    let m : refusalCode r % 2 ^ 48 ≡ r .place = omega (arith, h .1) in
+    ap₂ saidBy q m ∙ said-refused (r .number) (r .place) (h .0)
 
 -- ---- read
 module _ (s : List ℕ) {a : Reading} (e : saidOf a ≡ refusalOf s) where
   pub accepted-code : a ≡ Accepted → 0 ≡ readCode s
-  accepted-code d = ap refusalCode (sym (ap saidOf d)) ∙ ap refusalCode e
+  accepted-code d = ap (λ (o : Option Refusal). codeOf o 0) (sym (ap saidOf d) ∙ e)
 
-  pub refused-code : {r : Refusal} → a ≡ Refused r → refusalCode (some r) ≡ readCode s
-  refused-code d = ap refusalCode (sym (ap saidOf d)) ∙ ap refusalCode e
+  pub refused-code : {r : Refusal} → a ≡ Refused r → refusalCode r ≡ readCode s
+  refused-code d = ap (λ (o : Option Refusal). codeOf o 0) (sym (ap saidOf d) ∙ e)
 
   pub place-small : {r : Refusal} → a ≡ Refused r → r .place < mostNodes
   place-small d = refusal-small s (sym e ∙ ap saidOf d) .low-place
 
--- number and place are told from the code, and so is that the sheet is accepted
-module _ (s : List ℕ) where
-  pub code-tells : {r : Refusal} → refusalOf s ≡ some r → (readCode s / 2 ^ 48 ≡ r .number) × (readCode s % 2 ^ 48 ≡ r .place) × (0 < readCode s)
-  code-tells {r} e =
-      let b = refusal-small s e in
-      let l = b .low-place in
-      let m = b .some-number in
-      let c : readCode s ≡ r .number * 2 ^ 48 + r .place = ap refusalCode e in
-      (omega arith, omega arith, omega arith)
+nothing : (o : Option Refusal) → unlessRefused o 0 ≡ 0
+nothing none = refl
+nothing (some r) = refl
 
-  pub code-accepts : refusalOf s ≡ none → readCode s ≡ 0
-  code-accepts e = ap refusalCode e
+module _ (s : List ℕ) where
+  pub read-tells : codeSaid (readCode s) ≡ (refusalOf s, 0)
+  read-tells = code-tells (refusalOf s) 0 small (λ e. omega arith) ∙ ap (λ (n : ℕ). (refusalOf s, n)) (nothing (refusalOf s))
+    where
+      small : (r : Refusal) → refusalOf s ≡ some r → (1 ≤ r .number) × (r .place < 2 ^ 48)
+      small r e = let b = refusal-small s e in (b .some-number, omega (arith, b .low-place))
 
   -- ---- name
   given-parts : (i : ℕ) → nameGiven s i ≡ true → (refusalOf s ≡ none) × (i < variableCount s)
@@ -87,10 +104,10 @@ module _ (s : List ℕ) where
         go true q d = absurd (let l = given-size i q .0 in omega arith)
         go false q d = refl
 
-    pub some-name : (size ≡ 0 → ⊥) → (14 + 24 * i) * 65536 + size ≡ nameCode s i
-    some-name z = go (nameGiven s i) refl e
+    pub some-name : {place : ℕ} → place ≡ variablePlace i → (size ≡ 0 → ⊥) → (place + nameStart) * 65536 + size ≡ nameCode s i
+    some-name {place} p z = go (nameGiven s i) refl e
       where
-        go : (b : Bool) → nameGiven s i ≡ b → size ≡ cond b (nameSize s (variablePlace i)) 0 → (14 + 24 * i) * 65536 + size ≡ cond b ((variablePlace i + nameStart) * 65536 + nameSize s (variablePlace i)) 0
+        go : (b : Bool) → nameGiven s i ≡ b → size ≡ cond b (nameSize s (variablePlace i)) 0 → (place + nameStart) * 65536 + size ≡ cond b ((variablePlace i + nameStart) * 65536 + nameSize s (variablePlace i)) 0
         go true q d = omega arith
         go false q d = absurd (z d)
 
@@ -114,7 +131,14 @@ module _ {sheet part : RefT (List ℕ)} (i : ℕ) (p : NamePart sheet i part) wh
       go true q a d = let l = given-size (sheet .now) i q .1 in (omega arith, omega arith)
       go false q a d = (a, d)
 
--- ---- block
+-- ---- block: as long as the code says, and where the header file says
 module _ {sheet part : RefT (List ℕ)} (k : ℕ) (p : BlockPart sheet k part) where
-  pub block-tells : length (part .now) ≡ blockCode (sheet .now) k
-  block-tells = ap length (p .bytes) ∙ part-size (sheet .now) (blockGiven (sheet .now) k) (blockBytes * k) contentBytes (λ g. let w = right-given (sheet .now) k g .0 in omega arith)
+  pub block-part-size : length (part .now) ≡ blockCode (sheet .now) k
+  block-part-size = ap length (p .bytes) ∙ part-size (sheet .now) (blockGiven (sheet .now) k) (blockBytes * k) contentBytes (λ g. let w = right-given (sheet .now) k g .0 in omega arith)
+
+  pub block-tells : (length (part .now) ≡ blockCode (sheet .now) k) × (0 < blockCode (sheet .now) k → part .ptr .1 ≡ sheet .ptr .1 + blockBytes * k)
+  block-tells = (block-part-size, go (blockGiven (sheet .now) k) (p .place))
+    where
+      go : (b : Bool) → part .ptr .1 ≡ sheet .ptr .1 + cond b (blockBytes * k) 0 → 0 < cond b contentBytes 0 → part .ptr .1 ≡ sheet .ptr .1 + blockBytes * k
+      go true d h = d
+      go false d h = absurd (omega arith)

@@ -1,5 +1,5 @@
 -- The numbers that the script's writer gives in C tell its answers. Assumes nothing.
-use Prim.Native.Nat.{ℕ, _≤_, _<_}
+use Prim.Native.Nat.{ℕ, _^_, _≤_, _<_}
 use mathlib.Core.Path.{_≡_, refl, sym, ap, _∙_}
 use mathlib.Core.Logic.{_⊎_, inl, inr}
 use mathlib.Core.List.{List}
@@ -8,36 +8,57 @@ use native.Mathlib.Omega.{arith}
 use lib.ListN.{length}
 use Rattle.numbers.specs.declared.Refusal.{Refusal}
 use Rattle.layout.specs.Parts.{ruleIn}
-use Rattle.refusals.proofs.AfterLaws.{stopped}
+use Rattle.refusals.proofs.AfterLaws.{passed, stopped}
 use Rattle.reading.specs.Cascade.{refusalOf}
 use Rattle.reading.proofs.Bounds.{refusal-small}
+use Rattle.cases.specs.Tallies.{unlessRefused}
 use Rattle.wording.specs.Script.{script}
 use Rattle.writer.specs.declared.Written.{Written}
 use Rattle.writer.specs.declared.Written.the-variants.{Refused}
-use Rattle.writer.specs.Writes.{scriptRefusal, writtenSaid, verdict, Writes}
+use Rattle.writer.specs.Writes.{enoughRoom, scriptRefusal, writtenSaid, verdict, Writes}
 use Rattle.writer.proofs.ScriptLaws.{script-short}
-use Rattle.capi.specs.Codes.{writtenCode, ScriptCodes}
+use Rattle.capi.specs.Codes.{codeOf, codeSaid, ScriptCodes}
+use Rattle.capi.proofs.CodeLaws.{code-tells}
+
+-- the code of an answer, and that of what decides it
+abbrev writtenCode : Option Refusal × ℕ → ℕ
+writtenCode v = codeOf (v .0) (v .1)
+
+written-code-by : (o : Option Refusal) (t : List ℕ) → writtenCode (verdict o t) ≡ codeOf o (length t)
+written-code-by none t = refl
+written-code-by (some r) t = refl
 
 module _ (s : List ℕ) where
   -- a refusal's place is small: a node, or the bytes that a script needs
-  script-small : (n : ℕ) {r : Refusal} → scriptRefusal s n ≡ some r → r .place ≤ 4096
+  script-small : (n : ℕ) {r : Refusal} → scriptRefusal s n ≡ some r → (1 ≤ r .number) × (r .place ≤ enoughRoom)
   unfolding scriptRefusal
   script-small n {r} e = go (stopped (refusalOf s) (length (script (ruleIn s))) n 9 (length (script (ruleIn s))) e)
     where
-      go : (refusalOf s ≡ some r) ⊎ ((refusalOf s ≡ none) × (n < length (script (ruleIn s))) × (r ≡ record { number = 9; place = length (script (ruleIn s)) })) → r .place ≤ 4096
-      go (inl q) = omega (arith, refusal-small s q .low-place)
-      go (inr w) = rw (w .2) (script-short s (w .0))
+      go : (refusalOf s ≡ some r) ⊎ ((refusalOf s ≡ none) × (n < length (script (ruleIn s))) × (r ≡ record { number = 9; place = length (script (ruleIn s)) })) → (1 ≤ r .number) × (r .place ≤ enoughRoom)
+      go (inl q) = let b = refusal-small s q in (b .some-number, omega (arith, b .low-place))
+      go (inr w) = rw (w .2) (omega arith, script-short s (w .0))
+
+  -- the refusal, or the bytes written
+  pub script-tells : {before after : List ℕ} {r : ℕ} → ScriptCodes s before r after → codeSaid r ≡ (scriptRefusal s (length before), unlessRefused (scriptRefusal s (length before)) (length (script (ruleIn s))))
+  unfolding scriptRefusal
+  script-tells {before} c = ap codeSaid (c .code) ∙ code-tells _ _ small answered
+    where
+      small : (r : Refusal) → scriptRefusal s (length before) ≡ some r → (1 ≤ r .number) × (r .place < 2 ^ 48)
+      small r e = let b = script-small (length before) e in (b .0, omega (arith, b .1))
+
+      answered : scriptRefusal s (length before) ≡ none → length (script (ruleIn s)) < 2 ^ 48
+      answered e = omega (arith, script-short s (passed (refusalOf s) (length (script (ruleIn s))) (length before) 9 (length (script (ruleIn s))) e .0))
 
   module _ {before after : List ℕ} {a : Written} (c : Writes s before a after) where
     answer-is : {v : Option Refusal × ℕ} → writtenSaid a ≡ v → verdict (scriptRefusal s (length before)) (script (ruleIn s)) ≡ v
     answer-is e = sym (c .answer) ∙ e
 
     pub written-code : {n : ℕ} {v : Option Refusal × ℕ} → writtenSaid a ≡ v → n ≡ writtenCode v → ScriptCodes s before n after
-    written-code e d = record { code = d ∙ ap writtenCode (sym (answer-is e)); room = c .room }
+    written-code e d = record { code = d ∙ ap writtenCode (sym (answer-is e)) ∙ written-code-by (scriptRefusal s (length before)) (script (ruleIn s)); room = c .room }
 
-    pub written-place : {r : Refusal} → a ≡ Refused r → r .place ≤ 4096
+    pub written-place : {r : Refusal} → a ≡ Refused r → r .place ≤ enoughRoom
     written-place {r} d = go (scriptRefusal s (length before)) refl (answer-is (ap writtenSaid d))
       where
-        go : (o : Option Refusal) → scriptRefusal s (length before) ≡ o → verdict o (script (ruleIn s)) ≡ (some r, 0) → r .place ≤ 4096
+        go : (o : Option Refusal) → scriptRefusal s (length before) ≡ o → verdict o (script (ruleIn s)) ≡ (some r, 0) → r .place ≤ enoughRoom
         go none q w = absurd (let z : _≡_ {A = ℕ} 0 1 = cc (ap (λ (p : Option Refusal × ℕ). p .0) w) in omega arith)
-        go (some t) q w = script-small (length before) (q ∙ ap (λ (p : Option Refusal × ℕ). p .0) w)
+        go (some t) q w = script-small (length before) (q ∙ ap (λ (p : Option Refusal × ℕ). p .0) w) .1

@@ -1,5 +1,5 @@
 -- The answers of the C interface as one number each (include/ragwashin.h).
-use Prim.Native.Nat.{ℕ, _+_, _*_, _^_}
+use Prim.Native.Nat.{ℕ, zero, suc, _+_, _*_, _/_, _%_, _^_}
 use mathlib.Core.Path.{_≡_}
 use mathlib.Core.Bool.{Bool, cond}
 use mathlib.Core.List.{List}
@@ -13,56 +13,55 @@ use Rattle.layout.specs.Parts.{nameSize, ruleIn}
 use Rattle.blocks.specs.Block.{blockGiven}
 use Rattle.reading.specs.Cascade.{refusalOf}
 use Rattle.reading.specs.Name.{nameGiven}
-use Rattle.cases.specs.Checks.{tryRefusal, checkRefusal, verdict, roomAfter}
+use Rattle.cases.specs.Checks.{tryRefusal, checkRefusal, isSome, roomAfter}
 use Rattle.wording.specs.Script.{script}
-use Rattle.writer.specs.Writes.{scriptRefusal, verdict as written, roomAfter as scriptRoom}
+use Rattle.writer.specs.Writes.{scriptRefusal, roomAfter as scriptRoom}
 
--- high 16 bits the refusal's number, low 48 bits its place; 0 where the sheet is accepted
-abbrev pub refusalCode : Option Refusal → ℕ
-refusalCode none = 0
-refusalCode (some r) = r .number * 2 ^ 48 + r .place
+-- high 16 bits the refusal's number, low 48 bits its place
+abbrev pub refusalCode : Refusal → ℕ
+refusalCode r = r .number * 2 ^ 48 + r .place
 
+-- the refusal, or the answer of a call that is not refused
+abbrev pub codeOf : Option Refusal → ℕ → ℕ
+codeOf none n = n
+codeOf (some r) n = refusalCode r
+
+-- what a code says, by its high 16 bits and its low 48: none and the answer, or the refusal and 0
+abbrev pub saidBy : ℕ → ℕ → Option Refusal × ℕ
+saidBy zero low = (none, low)
+saidBy (suc n) low = (some (record { number = suc n; place = low }), 0)
+
+abbrev pub codeSaid : ℕ → Option Refusal × ℕ
+codeSaid c = saidBy (c / 2 ^ 48) (c % 2 ^ 48)
+
+-- 0 where the sheet is accepted
 abbrev pub readCode : List ℕ → ℕ
-readCode s = refusalCode (refusalOf s)
+readCode s = codeOf (refusalOf s) 0
 
 -- the name's offset in the sheet times 65,536 plus its length; 0 where the part is empty
 abbrev pub nameCode : List ℕ → ℕ → ℕ
 nameCode s i = cond (nameGiven s i) ((variablePlace i + nameStart) * 65536 + nameSize s (variablePlace i)) 0
 
--- 510, or 0 where the part is empty; the part starts at 512 times k
+-- 510, and the part starts at 512 times k; 0 where it is empty
 abbrev pub blockCode : List ℕ → ℕ → ℕ
 blockCode s k = cond (blockGiven s k) contentBytes 0
 
--- ---- the check: the refusal, or 0 where the rule holds and 1 where it fails
-abbrev pub verdictBy : Option Refusal → Bool → ℕ
-verdictBy none fails = cond fails 1 0
-verdictBy (some r) fails = refusalCode (some r)
+-- the check: 0 where the rule holds and 1 where it fails, and the room as `check` leaves it
+abbrev pub failsCode : Bool → ℕ
+failsCode fails = cond fails 1 0
 
-abbrev pub verdictCode : Option Refusal × Bool → ℕ
-verdictCode v = verdictBy (v .0) (v .1)
-
--- the code, and the room as `check` leaves it
 pub record CheckCodes (s : List ℕ) (before : List ℤ) (r : ℕ) (after : List ℤ) : Type 0 where
-  pub code : r ≡ verdictCode (verdict (checkRefusal s (length before)) (firstFailure (ruleIn s)))
+  pub code : r ≡ codeOf (checkRefusal s (length before)) (failsCode (isSome (firstFailure (ruleIn s))))
   pub room : after ≡ roomAfter (checkRefusal s (length before)) (firstFailure (ruleIn s)) before
 
--- ---- the tally: the refusal, or held times 2^24 plus failed
-abbrev pub tallyBy : Option Refusal → ℕ → ℕ → ℕ
-tallyBy none h f = h * 2 ^ 24 + f
-tallyBy (some r) h f = refusalCode (some r)
+-- the tally: held times 2^24 plus failed
+abbrev pub countsCode : ℕ → ℕ → ℕ
+countsCode h f = h * 2 ^ 24 + f
 
 abbrev pub tallyCode : List ℕ → ℕ
-tallyCode s = tallyBy (tryRefusal s) (held (ruleIn s)) (failed (ruleIn s))
+tallyCode s = codeOf (tryRefusal s) (countsCode (held (ruleIn s)) (failed (ruleIn s)))
 
--- ---- the script: the refusal, or the bytes written
-abbrev pub writtenBy : Option Refusal → ℕ → ℕ
-writtenBy none n = n
-writtenBy (some r) n = refusalCode (some r)
-
-abbrev pub writtenCode : Option Refusal × ℕ → ℕ
-writtenCode v = writtenBy (v .0) (v .1)
-
--- the code, and the room as `write_script` leaves it
+-- the script: the bytes written, and the room as `write_script` leaves it
 pub record ScriptCodes (s before : List ℕ) (r : ℕ) (after : List ℕ) : Type 0 where
-  pub code : r ≡ writtenCode (written (scriptRefusal s (length before)) (script (ruleIn s)))
+  pub code : r ≡ codeOf (scriptRefusal s (length before)) (length (script (ruleIn s)))
   pub room : after ≡ scriptRoom (scriptRefusal s (length before)) (script (ruleIn s)) before

@@ -1,12 +1,9 @@
 // The C interface: the calls on numbers and slices, each answer one number. See include/ragwashin.h.
 ghost use mathlib.Core.Path.{_≡_};
-ghost use mathlib.Core.Option.{some};
 ghost use Prim.Native.Nat.{_<_, _^_};
 ghost use Rattle.capi.specs.Codes.{readCode, nameCode, blockCode, refusalCode, CheckCodes, tallyCode, ScriptCodes};
 use cases::Checked;
-use layout::HEADER_BYTES;
 use layout::NAME_START;
-use layout::VARIABLE_BYTES;
 use numbers::Refusal;
 use numbers::VariableNumber;
 use refusals::Reading;
@@ -17,11 +14,6 @@ const NUMBER: u64 = 281474976710656;
 const OFFSET: u64 = 65536;
 
 const COUNT: u64 = 16777216;
-
-// Where the name of variable 0 stands, and how far the next one is.
-const FIRST_NAME: u64 = (HEADER_BYTES + NAME_START) as u64;
-
-const VARIABLE: u64 = VARIABLE_BYTES as u64;
 
 #[no_mangle]
 pub extern "C" fn ragwashin_read(sheet: &[u8]) -> u64
@@ -43,7 +35,8 @@ pub extern "C" fn ragwashin_name(sheet: &[u8], variable: u16) -> u64
     if size == 0 {
         return 0;
     }
-    (FIRST_NAME + VARIABLE * (variable as u64)) * OFFSET + size
+    let start = records::variable_place(VariableNumber(variable)) + NAME_START;
+    (start as u64) * OFFSET + size
 }
 
 #[no_mangle]
@@ -56,7 +49,7 @@ pub extern "C" fn ragwashin_block(sheet: &[u8], k: u64) -> u64
 // A refusal as one number.
 fn refusal_code(refusal: Refusal) -> u64
     requires { ⌜ refusal .place < 2 ^ 48 ⌝ }
-    ensures { λ r. ⌜ r ≡ refusalCode (some refusal) ⌝ }
+    ensures { λ r. ⌜ r ≡ refusalCode refusal ⌝ }
 {
     refusal.number as u64 * NUMBER + refusal.place as u64
 }

@@ -64,7 +64,7 @@ fn counts_right(sheet: &[u8]) -> bool
     if MOST_VARIABLES < v {
         return false;
     }
-    sheet.len() == BLOCK_BYTES * ((n + 30) / NODES_IN_BLOCK + 1)
+    sheet.len() == BLOCK_BYTES * ((n + (NODES_IN_BLOCK - 1)) / NODES_IN_BLOCK + 1)
 }
 
 // Where the used bytes of block k end.

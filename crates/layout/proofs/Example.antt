@@ -25,7 +25,7 @@ use Rattle.kinds.specs.declared.Shape.{Shape}
 use Rattle.kinds.specs.declared.Shape.the-variants.{Wrong, Bare, Valued, Named, One, Two, Three}
 use Rattle.kinds.specs.Kinds.{row}
 use Rattle.kinds.specs.Rows.{by-rows}
-use Rattle.layout.specs.Limits.{blockBytes, mostVariables, nodesInBlock, mostNodes, blocksFor, mostBlocks, variablePlace, nodePlace}
+use Rattle.layout.specs.Limits.{mostVariables, nodesInBlock, mostNodes, blocksFor, mostBlocks, mostSheetBytes, variablePlace, nodePlace}
 use Rattle.layout.specs.Checks.{weighted, checkOf, sealed}
 use Rattle.layout.specs.Starts.{shapeAt, operandsOf, startStep, startAt}
 use Rattle.layout.specs.Goal.{treeStep, treeAt, goalOf, Sound}
@@ -65,10 +65,10 @@ abbrev pub sheetA : List ℕ
 sheetA = sheetOf ruleA
 
 -- ---- the limits, as document 01 counts them
-blocks-are : (blocksFor 1 ≡ 1) × (blocksFor 31 ≡ 1) × (blocksFor 32 ≡ 2) × (blocksFor mostNodes + 1 ≡ mostBlocks)
+blocks-are : (blocksFor 1 ≡ 1) × (blocksFor 31 ≡ 1) × (blocksFor 32 ≡ 2) × (mostBlocks ≡ 9)
 blocks-are = (refl, refl, refl, refl)
 
-whole-blocks : (nodesInBlock * 8 ≡ mostNodes) × (blockBytes * mostBlocks ≡ 4608)
+whole-blocks : (nodesInBlock * 8 ≡ mostNodes) × (mostSheetBytes ≡ 4608)
 whole-blocks = (refl, refl)
 
 places-are : (variablePlace 0 ≡ 8) × (variablePlace mostVariables ≡ 392) × (nodePlace 0 ≡ 512) × (nodePlace 30 ≡ 992) × (nodePlace 31 ≡ 1024)

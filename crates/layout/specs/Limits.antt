@@ -41,11 +41,14 @@ mostNodes = 248
 
 -- n nodes take n / 31 blocks, rounded up
 abbrev pub blocksFor : ℕ → ℕ
-blocksFor n = (n + 30) / nodesInBlock
+blocksFor n = (n + (nodesInBlock - 1)) / nodesInBlock
 
--- block 0 and the most node blocks
+-- block 0 and the most node blocks, and the bytes of the longest sheet
 abbrev pub mostBlocks : ℕ
-mostBlocks = 9
+mostBlocks = blocksFor mostNodes + 1
+
+abbrev pub mostSheetBytes : ℕ
+mostSheetBytes = blockBytes * mostBlocks
 
 -- the bytes before the first variable record
 abbrev pub headerBytes : ℕ

@@ -28,6 +28,9 @@ variableCount s = byteAt s 4
 abbrev pub nameSize : List ℕ → ℕ → ℕ
 nameSize s i = byteAt s (i + 4)
 
+abbrev pub zeroByte : List ℕ → ℕ → ℕ
+zeroByte s i = byteAt s (i + 5)
+
 abbrev pub nameIn : List ℕ → ℕ → List ℕ
 nameIn s i = take (nameSize s i) (drop (i + nameStart) s)
 
@@ -68,7 +71,7 @@ usedInNodeBlock s b = nodeBytes * min nodesInBlock (nodeCount s - nodesInBlock *
 -- the variable record at place i is laid out right: the name's length, the zero byte, and zeros from the name's end to the record's
 pub record VariableLaidOut (s : List ℕ) (i : ℕ) : Type 0 where
   pub short : nameSize s i ≤ mostNameBytes
-  pub gap : byteAt s (i + 5) ≡ 0
+  pub gap : zeroByte s i ≡ 0
   pub rest : Zeros s (i + nameStart + nameSize s i) (nameField - nameSize s i)
 
 -- a sheet that is laid out right; what the rule itself must meet beyond that is no part of the layout

@@ -26,8 +26,10 @@ pub const NODES_IN_BLOCK: usize = 31;
 
 pub const MOST_NODES: usize = 248;
 
-// Block 0 and the most node blocks.
-pub const MOST_BLOCKS: usize = 9;
+// Block 0 and the most node blocks, and the bytes of the longest sheet.
+pub const MOST_BLOCKS: usize = (MOST_NODES + (NODES_IN_BLOCK - 1)) / NODES_IN_BLOCK + 1;
+
+pub const MOST_SHEET_BYTES: usize = BLOCK_BYTES * MOST_BLOCKS;
 
 // The bytes before the first variable record.
 pub const HEADER_BYTES: usize = 8;

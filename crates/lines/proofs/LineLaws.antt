@@ -15,18 +15,18 @@ use Rattle.wording.specs.Words.{wordOf}
 use Rattle.wording.specs.Sixteen.{hexText, literal, symbolText}
 use Rattle.room.specs.Room.{texts}
 use Rattle.pieces.proofs.PieceLaws.{hex-length, literal-length, symbol-low, symbol-high}
-use Rattle.lines.specs.Lines.{declarationLine, rangeStart, rangeEnd, rangeLine, variablesLength}
+use Rattle.lines.specs.Lines.{declarationLine, rangeStart, rangeEnd, rangeLine, declarationBytes, startBytes, rangeBytes, variablesLength}
 
 -- ---- lengths
-pub declaration-length : (i : ℕ) → length (declarationLine i) ≡ 32 + length (symbolText i)
+pub declaration-length : (i : ℕ) → length (declarationLine i) ≡ declarationBytes i
 unfolding declarationLine
 declaration-length i = simp length-append (omega arith)
 
-pub start-length : (low i : ℕ) → length (rangeStart low i) ≡ 27 + length (symbolText i)
+pub start-length : (low i : ℕ) → length (rangeStart low i) ≡ startBytes i
 unfolding rangeStart
 start-length low i = simp (length-append, hex-length) (omega arith)
 
-pub range-length : (s : List ℕ) (i : ℕ) → length (rangeLine s i) ≡ 47 + 2 * length (symbolText i)
+pub range-length : (s : List ℕ) (i : ℕ) → length (rangeLine s i) ≡ rangeBytes i
 unfolding rangeLine ofTree by-rows wordOf
 range-length s i = simp (length-append, literal-length) (omega arith)
 

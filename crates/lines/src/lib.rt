@@ -3,14 +3,13 @@ ghost use mathlib.Core.Path.{_≡_};
 ghost use Prim.Native.Nat.{_+_, _≤_, _<_};
 ghost use lib.ListN.{length};
 ghost use Rattle.layout.specs.Limits.{blockBytes, mostVariables};
-ghost use Rattle.wording.specs.Sixteen.{symbolText};
 ghost use Rattle.room.specs.Room.{Wrote, texts};
-ghost use Rattle.lines.specs.Lines.{declarationLine, rangeStart, rangeEnd, rangeLine, variablesLength};
+ghost use Rattle.lines.specs.Lines.{declarationLine, rangeStart, rangeEnd, rangeLine, declarationBytes, startBytes, endBytes, rangeBytes, variablesLength};
 use numbers::VariableNumber;
 
 // A variable's declaration line.
 fn declaration(room: &mut [u8], at: usize, n: VariableNumber) -> usize
-    requires { ⌜ (n .0 < mostVariables) × (at + 32 + length (symbolText (n .0)) ≤ length (now room)) ⌝ }
+    requires { ⌜ (n .0 < mostVariables) × (at + declarationBytes (n .0) ≤ length (now room)) ⌝ }
     ensures { λ r. ⌜ Wrote (declarationLine (n .0)) (now (room .entry)) (now (room .exit)) at r ⌝ }
 {
     let p = room::put(room, at, b"(declare-fun ");
@@ -34,7 +33,7 @@ pub fn declarations(room: &mut [u8], at: usize, count: usize) -> usize
 
 // A range line up to the lower end, which is given by its bits.
 fn range_start(room: &mut [u8], at: usize, n: VariableNumber, low: u16) -> usize
-    requires { ⌜ (n .0 < mostVariables) × (at + 27 + length (symbolText (n .0)) ≤ length (now room)) ⌝ }
+    requires { ⌜ (n .0 < mostVariables) × (at + startBytes (n .0) ≤ length (now room)) ⌝ }
     ensures { λ r. ⌜ Wrote (rangeStart low (n .0)) (now (room .entry)) (now (room .exit)) at r ⌝ }
 {
     let p = room::put(room, at, b"(assert (and (bvsle ");
@@ -45,7 +44,7 @@ fn range_start(room: &mut [u8], at: usize, n: VariableNumber, low: u16) -> usize
 
 // The rest of a range line, with the upper end by its bits.
 fn range_end(room: &mut [u8], at: usize, n: VariableNumber, high: u16) -> usize
-    requires { ⌜ (n .0 < mostVariables) × (at + 20 + length (symbolText (n .0)) ≤ length (now room)) ⌝ }
+    requires { ⌜ (n .0 < mostVariables) × (at + endBytes (n .0) ≤ length (now room)) ⌝ }
     ensures { λ r. ⌜ Wrote (rangeEnd (n .0) high) (now (room .entry)) (now (room .exit)) at r ⌝ }
 {
     let p = room::put(room, at, b") (bvsle ");
@@ -57,7 +56,7 @@ fn range_end(room: &mut [u8], at: usize, n: VariableNumber, high: u16) -> usize
 
 // A variable's range line.
 fn range_line(sheet: &[u8], room: &mut [u8], at: usize, n: VariableNumber) -> usize
-    requires { ⌜ (blockBytes ≤ length (now sheet)) × (n .0 < mostVariables) × (at + 47 + length (symbolText (n .0)) + length (symbolText (n .0)) ≤ length (now room)) ⌝ }
+    requires { ⌜ (blockBytes ≤ length (now sheet)) × (n .0 < mostVariables) × (at + rangeBytes (n .0) ≤ length (now room)) ⌝ }
     ensures { λ r. ⌜ Wrote (rangeLine (now (sheet .entry)) (n .0)) (now (room .entry)) (now (room .exit)) at r ⌝ }
 {
     let place = records::variable_place(n);

@@ -9,6 +9,7 @@ use lib.IntN.{ℤ}
 use lib.ListN.{length}
 use Rattle.numbers.specs.Two.{enc}
 use Rattle.wording.specs.Sixteen.{hexText, literal, symbolText}
+use Rattle.pieces.specs.Sizes.{constantBytes, longestSymbol}
 
 pub one-digit : {i : ℕ} → i < 10 → 118 ∷ (48 + i) ∷ [] ≡ symbolText i
 unfolding symbolText
@@ -26,13 +27,13 @@ pub symbol-high : {i : ℕ} → 10 ≤ i → length (symbolText i) ≡ 3
 unfolding symbolText
 symbol-high {i} h = rw (le-ltb i 10 h)
 
-pub symbol-short : (i : ℕ) → length (symbolText i) ≤ 3
+pub symbol-short : (i : ℕ) → length (symbolText i) ≤ longestSymbol
 symbol-short i = elim (decLt i 10) [ yes h ↦ omega (arith, symbol-low h) | no h ↦ let g : 10 ≤ i = omega arith in omega (arith, symbol-high g) ]
 
-pub hex-length : (x : ℕ) → length (hexText x) ≡ 6
+pub hex-length : (x : ℕ) → length (hexText x) ≡ constantBytes
 unfolding hexText
 hex-length x = refl
 
-pub literal-length : (z : ℤ) → length (literal z) ≡ 6
+pub literal-length : (z : ℤ) → length (literal z) ≡ constantBytes
 unfolding literal
 literal-length z = hex-length (enc 16 z)

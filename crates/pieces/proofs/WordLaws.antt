@@ -1,4 +1,4 @@
--- The words of kinds: at most five letters, and those of the code. Assumes nothing.
+-- The words of kinds: how long they can be, and those of the code. Assumes nothing.
 use Prim.Native.Nat.{ℕ, _≤_}
 use mathlib.Core.Path.{_≡_}
 use mathlib.Core.List.{List}
@@ -7,13 +7,14 @@ use lib.ListN.{length, take}
 use Rattle.kinds.specs.declared.Kind.{Kind}
 use Rattle.kinds.specs.declared.Kind.the-variants.{Unknown, True, False, Not, And, Or, Implies, Iff, Equal, Less, AtMost, Constant, Variable, Minus, Sum, Difference, Product, If}
 use Rattle.wording.specs.Words.{wordOf}
+use Rattle.pieces.specs.Sizes.{longestWord}
 use Rattle.pieces.specs.Spelling.{Spells}
 
 -- the row of letters and the number that an arm gives
 pub spelled : {k j : Kind} (l : List ℕ) (n : ℕ) → k ≡ j → n ≡ length (wordOf j) → take n l ≡ wordOf j → T (leb n (length l)) → Spells (wordOf k) (l, n)
 spelled l n e size text few = rw e (record { size = size; few = lit≤ few; text = text })
 
-pub word-short : (k : Kind) → length (wordOf k) ≤ 5
+pub word-short : (k : Kind) → length (wordOf k) ≤ longestWord
 unfolding wordOf
 word-short Unknown = lit≤ tt
 word-short True = lit≤ tt

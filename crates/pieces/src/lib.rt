@@ -8,36 +8,40 @@ ghost use Rattle.layout.specs.Limits.{mostVariables};
 ghost use Rattle.wording.specs.Words.{wordOf};
 ghost use Rattle.wording.specs.Sixteen.{hexDigit, hexText, symbolText};
 ghost use Rattle.room.specs.Room.{Wrote};
+ghost use Rattle.pieces.specs.Sizes.{constantBytes};
 ghost use Rattle.pieces.specs.Spelling.{Spells};
 use kinds::Kind;
 use numbers::VariableNumber;
 
+// The bytes of a constant.
+pub const CONSTANT_BYTES: usize = 6;
+
 // The letters of a kind's word, blanks behind them, and how many they are.
-struct Word([u8; 5], usize);
+struct Word([u8; 8], usize);
 
 // A kind's word: behind the opening parenthesis, or the whole text.
 fn word_of(kind: Kind) -> Word
     ensures { λ r. ⌜ Spells (wordOf kind) r ⌝ }
 {
     match kind {
-        Kind::Unknown => Word(*b"     ", 0),
-        Kind::True => Word(*b"true ", 4),
-        Kind::False => Word(*b"false", 5),
-        Kind::Not => Word(*b"not  ", 3),
-        Kind::And => Word(*b"and  ", 3),
-        Kind::Or => Word(*b"or   ", 2),
-        Kind::Implies => Word(*b"=>   ", 2),
-        Kind::Iff => Word(*b"=    ", 1),
-        Kind::Equal => Word(*b"=    ", 1),
-        Kind::Less => Word(*b"bvslt", 5),
-        Kind::AtMost => Word(*b"bvsle", 5),
-        Kind::Constant => Word(*b"     ", 0),
-        Kind::Variable => Word(*b"     ", 0),
-        Kind::Minus => Word(*b"bvneg", 5),
-        Kind::Sum => Word(*b"bvadd", 5),
-        Kind::Difference => Word(*b"bvsub", 5),
-        Kind::Product => Word(*b"bvmul", 5),
-        Kind::If => Word(*b"ite  ", 3),
+        Kind::Unknown => Word(*b"        ", 0),
+        Kind::True => Word(*b"true    ", 4),
+        Kind::False => Word(*b"false   ", 5),
+        Kind::Not => Word(*b"not     ", 3),
+        Kind::And => Word(*b"and     ", 3),
+        Kind::Or => Word(*b"or      ", 2),
+        Kind::Implies => Word(*b"=>      ", 2),
+        Kind::Iff => Word(*b"=       ", 1),
+        Kind::Equal => Word(*b"=       ", 1),
+        Kind::Less => Word(*b"bvslt   ", 5),
+        Kind::AtMost => Word(*b"bvsle   ", 5),
+        Kind::Constant => Word(*b"        ", 0),
+        Kind::Variable => Word(*b"        ", 0),
+        Kind::Minus => Word(*b"bvneg   ", 5),
+        Kind::Sum => Word(*b"bvadd   ", 5),
+        Kind::Difference => Word(*b"bvsub   ", 5),
+        Kind::Product => Word(*b"bvmul   ", 5),
+        Kind::If => Word(*b"ite     ", 3),
     }
 }
 
@@ -83,7 +87,7 @@ fn hex_digit(d: u16) -> u8
 
 // A constant by its bits, to the front of the room.
 pub fn constant(room: &mut [u8], bits: u16) -> usize
-    requires { ⌜ 6 ≤ length (now room) ⌝ }
+    requires { ⌜ constantBytes ≤ length (now room) ⌝ }
     ensures { λ r. ⌜ Wrote (hexText bits) (now (room .entry)) (now (room .exit)) 0 r ⌝ }
 {
     let text = [
@@ -99,7 +103,7 @@ pub fn constant(room: &mut [u8], bits: u16) -> usize
 
 // The same, from a place of the room on.
 pub fn constant_from(room: &mut [u8], at: usize, bits: u16) -> usize
-    requires { ⌜ at + 6 ≤ length (now room) ⌝ }
+    requires { ⌜ at + constantBytes ≤ length (now room) ⌝ }
     ensures { λ r. ⌜ Wrote (hexText bits) (now (room .entry)) (now (room .exit)) at r ⌝ }
 {
     at + constant(&mut room[at..], bits)

@@ -1,8 +1,9 @@
 -- How much of an input the program reads, and what its first word asks for.
-use Prim.Native.Nat.{ℕ}
+use Prim.Native.Nat.{ℕ, _+_}
 use mathlib.Core.Bool.{Bool, true, false}
 use mathlib.Core.List.{List}
 use Rattle.lists.specs.Ascii.{ascii}
+use Rattle.layout.specs.Limits.{mostSheetBytes}
 use Rattle.records.specs.Variables.{sameBytes}
 use Rattle.answers.specs.declared.Request.{Request}
 use Rattle.answers.specs.declared.Request.the-variants.{Read, Script, Check, Tally}
@@ -11,7 +12,7 @@ use Rattle.ragwashin.specs.declared.Word.the-variants.{Asks, Help, Unkno
 
 -- the most bytes of an input that are read: a longer one is no sheet
 abbrev pub mostRead : ℕ
-mostRead = 4609
+mostRead = mostSheetBytes + 1
 
 -- this where it is meant, or else the other
 abbrev pub meant : Bool → Word → Word → Word

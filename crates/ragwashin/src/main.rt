@@ -4,12 +4,14 @@ ghost use mathlib.Core.Bool.{true};
 ghost use Rattle.records.specs.Variables.{sameBytes};
 ghost use Rattle.ragwashin.specs.Words.{mostRead, meant, wordOf, isLine};
 use answers::Request;
+use layout::MOST_SHEET_BYTES;
 use libc::STDERR_FILENO;
 use libc::STDIN_FILENO;
 use libc::STDOUT_FILENO;
+use writer::ENOUGH_ROOM;
 
 // One byte more than the longest sheet has: a longer input is refused by its length.
-const MOST_READ: usize = 4609;
+const MOST_READ: usize = MOST_SHEET_BYTES + 1;
 
 // Behind the program's name and the word.
 const FIRST_FILE: usize = 2;
@@ -21,28 +23,11 @@ enum Word {
     Asks(Request),
 }
 
-// Whether two texts are the same, byte for byte.
-fn same_text(a: &[u8], b: &[u8]) -> bool
-    ensures { λ r. ⌜ r ≡ sameBytes (now (a .entry)) (now (b .entry)) ⌝ }
-{
-    if a.len() != b.len() {
-        return false;
-    }
-    let mut i = 0;
-    while i < a.len() {
-        if a[i] != b[i] {
-            return false;
-        }
-        i += 1;
-    }
-    true
-}
-
 // What a text means: this, where it is the word, or else what it means without that word.
 fn meaning(text: &[u8], word: &[u8], this: Word, other: Word) -> Word
     ensures { λ r. ⌜ r ≡ meant (sameBytes (now (text .entry)) (now (word .entry))) this other ⌝ }
 {
-    if same_text(text, word) {
+    if records::same_bytes(text, word) {
         return this;
     }
     other
@@ -130,7 +115,7 @@ fn answer(request: Request, fd: i32, name: &[u8], is_named: bool) {
         say_failed(name, b"cannot be read");
         return;
     }
-    let mut room = io::buffer();
+    let mut room = [0u8; ENOUGH_ROOM];
     let length = answers::answer(request, &input[..size], &mut room);
     if !write_line(name, is_named, &room[..length]) {
         say_failed(name, b"its answer cannot be written");

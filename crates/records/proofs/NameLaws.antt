@@ -10,7 +10,7 @@ use lib.ListN.{length}
 use lib.Signed.{_≤ℤ_}
 use Rattle.numbers.specs.Bytes.{byteAt, i16At}
 use Rattle.layout.specs.Limits.{mostNameBytes, nameStart, nameField}
-use Rattle.layout.specs.Parts.{nameSize, nameIn, VariableLaidOut}
+use Rattle.layout.specs.Parts.{nameSize, zeroByte, nameIn, VariableLaidOut}
 use Rattle.header.proofs.ZeroLaws.{zeros-at, zeros-of}
 use Rattle.records.specs.Variables.{isLetter, isNameByte, allNameBytes, nameRight, sameBytes, variableRight}
 use Rattle.records.specs.Names.{Letter, NameByte, Name, VariableRule}
@@ -99,7 +99,7 @@ module _ (s : List ℕ) (i : ℕ) where
       (decides-and
       (decides-and (decides-leZ (i16At s i) (i16At s (i + 2))) (decides-le 1 (nameSize s i)))
       (decides-le (nameSize s i) mostNameBytes))
-      (decides-eq (byteAt s (i + 5)) 0))
+      (decides-eq (zeroByte s i) 0))
       (name-decided (nameIn s i)))
       (zeros-at s (i + nameStart + nameSize s i) (nameField - nameSize s i), zeros-of s (i + nameStart + nameSize s i) (nameField - nameSize s i)))
       (λ w. rule-of (w .0 .0 .0 .0 .0) (w .0 .0 .0 .0 .1) (w .0 .1) (record { short = w .0 .0 .0 .1; gap = w .0 .0 .1; rest = w .1 }))

@@ -7,7 +7,7 @@ use lib.ListN.{length}
 use lib.Signed.{_≤ℤ_}
 use Rattle.numbers.specs.Bytes.{byteAt, i16At}
 use Rattle.layout.specs.Limits.{mostNameBytes, nameStart, variablePlace}
-use Rattle.layout.specs.Parts.{variableCount, nameSize, nameIn}
+use Rattle.layout.specs.Parts.{variableCount, nameSize, zeroByte, nameIn}
 
 -- ASCII: A to Z and a to z; 0 to 9; the underscore
 abbrev pub Letter : ℕ → Type 0
@@ -26,7 +26,7 @@ pub record VariableRule (s : List ℕ) (i : ℕ) : Type 0 where
   pub order : i16At s i ≤ℤ i16At s (i + 2)
   pub long : 1 ≤ nameSize s i
   pub short : nameSize s i ≤ mostNameBytes
-  pub gap : byteAt s (i + 5) ≡ 0
+  pub gap : zeroByte s i ≡ 0
   pub name : Name (nameIn s i)
   pub past : (j : ℕ) → nameSize s i ≤ j → j < mostNameBytes → byteAt s (i + nameStart + j) ≡ 0
   pub end : (byteAt s (i + 22) ≡ 0) × (byteAt s (i + 23) ≡ 0)

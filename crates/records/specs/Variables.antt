@@ -8,9 +8,9 @@ use lib.Signed.{leZ}
 use Rattle.lists.specs.Places.{allBelow}
 use Rattle.lists.specs.First.{first}
 use Rattle.numbers.specs.declared.Refusal.{Refusal}
-use Rattle.numbers.specs.Bytes.{byteAt, i16At}
+use Rattle.numbers.specs.Bytes.{i16At}
 use Rattle.layout.specs.Limits.{mostNameBytes, nameStart, nameField, variablePlace}
-use Rattle.layout.specs.Parts.{variableCount, nameSize, nameIn}
+use Rattle.layout.specs.Parts.{variableCount, nameSize, zeroByte, nameIn}
 use Rattle.refusals.specs.Said.{unless}
 use Rattle.header.specs.Header.{zeros}
 
@@ -43,7 +43,7 @@ variableRight s i =
     leZ (i16At s i) (i16At s (i + 2))
     && leb 1 (nameSize s i)
     && leb (nameSize s i) mostNameBytes
-    && eqb (byteAt s (i + 5)) 0
+    && eqb (zeroByte s i) 0
     && nameRight (nameIn s i)
     && zeros s (i + nameStart + nameSize s i) (nameField - nameSize s i)
 

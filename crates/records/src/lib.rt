@@ -8,7 +8,7 @@ ghost use lib.Signed.{leZ};
 ghost use Rattle.lists.specs.Part.{PartAt};
 ghost use Rattle.numbers.specs.Bytes.{i16At};
 ghost use Rattle.layout.specs.Limits.{blockBytes, nameStart, mostVariables, nodeBytes, variablePlace, nodePlace};
-ghost use Rattle.layout.specs.Parts.{variableCount, variableAt, recordIn, nameSize, nameIn, table};
+ghost use Rattle.layout.specs.Parts.{variableCount, variableAt, recordIn, nameSize, zeroByte, nameIn, table};
 ghost use Rattle.refusals.specs.Said.{saidOf};
 ghost use Rattle.records.specs.Variables.{isLetter, isNameByte, nameRight, sameBytes, variableRight, fresh, variables};
 use kinds::Record;
@@ -67,8 +67,8 @@ fn name_right(name: &[u8]) -> bool
     true
 }
 
-// Whether two names are the same, byte for byte.
-fn same_bytes(a: &[u8], b: &[u8]) -> bool
+// Whether two texts are the same, byte for byte.
+pub fn same_bytes(a: &[u8], b: &[u8]) -> bool
     ensures { λ r. ⌜ r ≡ sameBytes (now (a .entry)) (now (b .entry)) ⌝ }
 {
     if a.len() != b.len() {
@@ -110,6 +110,14 @@ fn ordered(sheet: &[u8], at: usize) -> bool
     numbers::i16_at(sheet, at) <= numbers::i16_at(sheet, at + 2)
 }
 
+// The byte of the variable record at a place that must be zero.
+fn zero_byte(sheet: &[u8], at: usize) -> u8
+    requires { ⌜ at + nameStart ≤ length (now sheet) ⌝ }
+    ensures { λ r. ⌜ r ≡ zeroByte (now (sheet .entry)) at ⌝ }
+{
+    sheet[at + 5]
+}
+
 // Whether the variable record at a place keeps its own rules.
 fn variable_right(sheet: &[u8], at: usize) -> bool
     requires { ⌜ at + nameStart + 255 ≤ length (now sheet) ⌝ }
@@ -125,7 +133,7 @@ fn variable_right(sheet: &[u8], at: usize) -> bool
     if MOST_NAME_BYTES < size {
         return false;
     }
-    if sheet[at + 5] != 0 {
+    if zero_byte(sheet, at) != 0 {
         return false;
     }
     let name = name_in(sheet, at);

@@ -13,7 +13,7 @@ use Rattle.kinds.specs.declared.Record.{Record}
 use Rattle.kinds.specs.declared.Shape.{Shape}
 use Rattle.kinds.specs.declared.Shape.the-variants.{Wrong, Bare, Valued, Named, One, Two, Three}
 use Rattle.kinds.specs.Kinds.{row}
-use Rattle.layout.specs.Limits.{mostVariables, nodeBytes, mostNodes, nodePlace}
+use Rattle.layout.specs.Limits.{mostVariables, nodeBytes, nodePlace}
 use Rattle.layout.specs.Starts.{shapeAt, operandsOf, startBy, startAt, Ordered, Listed, Placed}
 use Rattle.layout.specs.Parts.{variableCount, table}
 use Rattle.layout.specs.Fold.{foundBy}
@@ -27,9 +27,10 @@ use Rattle.wording.specs.Text.{call1, call2, call3, textBy, textStep}
 use Rattle.wording.specs.Sixteen.{hexText, literal, symbolText}
 use Rattle.room.specs.Room.{Wrote}
 use Rattle.room.proofs.RoomLaws.{wrote-as, chain3, chain4, chain5}
+use Rattle.pieces.specs.Sizes.{longestWord}
 use Rattle.pieces.proofs.WordLaws.{word-short}
 use Rattle.pieces.proofs.PieceLaws.{symbol-short, literal-length}
-use Rattle.terms.specs.Texts.{Ready, textAt}
+use Rattle.terms.specs.Texts.{Ready, textAt, leafBytes, bytesPerNode, longestText}
 
 -- ---- lengths
 pub length-1 : (w a : List ℕ) → length (call1 w a) ≡ 3 + length w + length a
@@ -63,9 +64,9 @@ wrote-three {w} {a} {b} {c} h x y z u v =
 abbrev byShape : (h : Shape) → List ℕ → Record → (ℕ → List ℕ) → List ℕ
 byShape h w r g = textBy literal symbolText h w (foundBy h r g)
 
--- eight bytes for each node of the subtree, but for two
-bound : (h : Shape) (r : Record) (w : List ℕ) (n : ℕ) (g : ℕ → List ℕ) (st : ℕ → ℕ) → length w ≤ 5 → Ordered st n (operandsOf h r) → Before n (operandsOf h r)
-    → ((j : ℕ) → j < n → length (g j) + 8 * st j ≤ 8 * j + 6) → length (byShape h w r g) + 8 * startBy h r n st ≤ 8 * n + 6
+-- so many bytes for each node of the subtree, but for the last, a leaf
+bound : (h : Shape) (r : Record) (w : List ℕ) (n : ℕ) (g : ℕ → List ℕ) (st : ℕ → ℕ) → length w ≤ longestWord → Ordered st n (operandsOf h r) → Before n (operandsOf h r)
+    → ((j : ℕ) → j < n → length (g j) + bytesPerNode * st j ≤ bytesPerNode * j + leafBytes) → length (byShape h w r g) + bytesPerNode * startBy h r n st ≤ bytesPerNode * n + leafBytes
 bound Wrong r w n g st l o b all = omega arith
 bound Bare r w n g st l o b all = omega arith
 bound Valued r w n g st l o b all = omega (arith, literal-length (dec 16 (r .value)))
@@ -78,13 +79,13 @@ bound (Three s t u) r w n g st l o b all =
 -- ---- nodes by the number of their operands: the length of the text, and that the operands are nodes of lower numbers
 pub record OneNode (s : List ℕ) (n : ℕ) (r : Record) : Type 0 where
   pub size : length (textAt s n) ≡ 3 + length (wordOf (r .kind)) + length (textAt s (r .a))
-  pub short : length (textAt s n) ≤ 8 * mostNodes
+  pub short : length (textAt s n) ≤ longestText
   pub first : Ready s (r .a)
   pub low : r .a < n
 
 pub record TwoNode (s : List ℕ) (n : ℕ) (r : Record) : Type 0 where
   pub size : length (textAt s n) ≡ 4 + length (wordOf (r .kind)) + length (textAt s (r .a)) + length (textAt s (r .b))
-  pub short : length (textAt s n) ≤ 8 * mostNodes
+  pub short : length (textAt s n) ≤ longestText
   pub first : Ready s (r .a)
   pub second : Ready s (r .b)
   pub low : r .a < n
@@ -92,7 +93,7 @@ pub record TwoNode (s : List ℕ) (n : ℕ) (r : Record) : Type 0 where
 
 pub record ThreeNode (s : List ℕ) (n : ℕ) (r : Record) : Type 0 where
   pub size : length (textAt s n) ≡ 5 + length (wordOf (r .kind)) + length (textAt s (r .a)) + length (textAt s (r .b)) + length (textAt s (r .c))
-  pub short : length (textAt s n) ≤ 8 * mostNodes
+  pub short : length (textAt s n) ≤ longestText
   pub first : Ready s (r .a)
   pub second : Ready s (r .b)
   pub third : Ready s (r .c)
@@ -114,7 +115,7 @@ module _ {s : List ℕ} {n : ℕ} (ok : Ready s n) where
 
 -- ---- how long a text can be
 module _ {s : List ℕ} where
-  short-below : (m n : ℕ) → n < m → Ready s n → length (textAt s n) + 8 * startAt (table s) n ≤ 8 * n + 6
+  short-below : (m n : ℕ) → n < m → Ready s n → length (textAt s n) + bytesPerNode * startAt (table s) n ≤ bytesPerNode * n + leafBytes
   short-below zero n h ok = absurd (omega arith)
   short-below (suc m) n h ok =
       let p = placed ok in
@@ -122,7 +123,7 @@ module _ {s : List ℕ} where
       (bound (shapeAt (table s n)) (table s n) (wordOf (table s n .kind)) n (textAt s) (startAt (table s)) (word-short _) (p .ordered) (lower p)
       (λ j l. short-below m j (omega arith) (record { accepted = ok .accepted; below = omega (arith, ok .below) })))
 
-  pub text-short : {n : ℕ} → Ready s n → length (textAt s n) ≤ 8 * mostNodes
+  pub text-short : {n : ℕ} → Ready s n → length (textAt s n) ≤ longestText
   text-short {n} ok =
       let c = accepted-counted s (ok .accepted) in
       omega (arith, short-below (suc n) n (omega arith) ok, c .most, ok .below)

@@ -1,15 +1,17 @@
 -- The texts of nodes, by the sheet's records (document 01, column "text").
-use Prim.Native.Nat.{ℕ, _<_}
+use Prim.Native.Nat.{ℕ, _*_, _<_}
 use mathlib.Core.Path.{_≡_}
 use mathlib.Core.List.{List, []}
 use mathlib.Core.Option.{none}
 use Rattle.kinds.specs.declared.Record.{Record}
+use Rattle.layout.specs.Limits.{mostNodes}
 use Rattle.layout.specs.Fold.{ofNode}
 use Rattle.layout.specs.Parts.{nodeCount, table}
 use Rattle.reading.specs.Cascade.{refusalOf}
 use Rattle.wording.specs.Words.{wordOf}
 use Rattle.wording.specs.Text.{call1, call2, call3, textStep}
 use Rattle.wording.specs.Sixteen.{literal, symbolText}
+use Rattle.pieces.specs.Sizes.{constantBytes}
 
 -- the sheet is accepted, and n is one of its nodes
 pub record Ready (s : List ℕ) (n : ℕ) : Type 0 where
@@ -19,6 +21,16 @@ pub record Ready (s : List ℕ) (n : ℕ) : Type 0 where
 -- node n's text
 unfoldable pub textAt : List ℕ → ℕ → List ℕ
 textAt s n = ofNode (textStep literal symbolText) [] (table s) n
+
+-- words of w letters and leaves of c bytes keep to k bytes per node where 3 + w ≤ k, 4 + w + c ≤ 2 k and 5 + w + 2 c ≤ 3 k
+abbrev pub leafBytes : ℕ
+leafBytes = constantBytes
+
+abbrev pub bytesPerNode : ℕ
+bytesPerNode = 9
+
+abbrev pub longestText : ℕ
+longestText = bytesPerNode * mostNodes
 
 -- the text of a node with one operand, two or three, by its record
 abbrev pub oneText : List ℕ → Record → List ℕ

@@ -11,6 +11,7 @@ use kinds::Record;
 use kinds::Shape;
 use numbers::NodeNumber;
 use numbers::VariableNumber;
+use pieces::CONSTANT_BYTES;
 
 // The text of a node, to the front of the room; its bytes.
 fn term(sheet: &[u8], node: NodeNumber, room: &mut [u8]) -> usize
@@ -86,7 +87,7 @@ pub fn term_len(sheet: &[u8], node: NodeNumber) -> usize
     match kinds::shape_of(kind) {
         Shape::Wrong => 0,
         Shape::Bare => size,
-        Shape::Valued => 6,
+        Shape::Valued => CONSTANT_BYTES,
         Shape::Named => pieces::symbol_len(VariableNumber(fields.a)),
         Shape::One(_) => size + 3 + term_len(sheet, NodeNumber(fields.a)),
         Shape::Two(_, _) => {

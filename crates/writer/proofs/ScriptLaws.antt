@@ -107,7 +107,7 @@ module _ (s : List ℕ) (e : refusalOf s ≡ none) where
   unfolding script joined
   script-is = assembled (declared s) (claimed s) _ (texts (rangeLine s) (variableCount s)) (negated s) (ascii "(set-logic QF_UFBV)\n") declarations-are ranges-are refl goal-is
 
-  goal-length : length (goalLines s) ≡ 35 + length (textAt s (nodeCount s - 1))
+  pub goal-length : length (goalLines s) ≡ 35 + length (textAt s (nodeCount s - 1))
   unfolding goalLines
   goal-length = simp length-append (omega arith)
 
@@ -115,11 +115,11 @@ module _ (s : List ℕ) (e : refusalOf s ≡ none) where
     pub script-from : ascii "(set-logic QF_UFBV)\n" ++ texts declarationLine v ++ texts (rangeLine s) v ++ goalLines s ≡ script (ruleIn s)
     script-from = rw ev script-is
 
-    pub script-parts : length (script (ruleIn s)) ≡ 20 + length (texts declarationLine v) + length (texts (rangeLine s) v) + 35 + length (textAt s (nodeCount s - 1))
-    script-parts = ap length (sym script-from) ∙ simp length-append (omega (arith, goal-length))
+    pub script-parts : length (script (ruleIn s)) ≡ 20 + length (texts declarationLine v) + length (texts (rangeLine s) v) + length (goalLines s)
+    script-parts = ap length (sym script-from) ∙ simp length-append (omega arith)
 
   pub script-length : length (script (ruleIn s)) ≡ variablesLength (variableCount s) + length (textAt s (nodeCount s - 1)) + 55
-  script-length = omega (arith, script-parts refl, variables-length s (variableCount s))
+  script-length = omega (arith, script-parts refl, goal-length, variables-length s (variableCount s))
 
   -- the goal's node
   pub goal-ready : {n : ℕ} → n ≡ nodeCount s - 1 → Ready s n

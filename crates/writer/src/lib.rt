@@ -7,12 +7,17 @@ ghost use Rattle.layout.specs.Parts.{nodeCount, ruleIn};
 ghost use Rattle.reading.specs.Cascade.{refusalOf};
 ghost use Rattle.wording.specs.Script.{script};
 ghost use Rattle.room.specs.Room.{Wrote};
-ghost use Rattle.terms.specs.Texts.{textAt};
 ghost use Rattle.writer.specs.Ending.{goalLines};
 ghost use Rattle.writer.specs.Writes.{Writes};
 use numbers::NodeNumber;
 use numbers::Refusal;
 use refusals::Reading;
+
+// A room of so many bytes is enough for the script of every accepted sheet.
+pub const ENOUGH_ROOM: usize = 4096;
+
+// The bytes of the first line and of the goal's lines, but for the goal's text.
+const FRAME_BYTES: usize = 20 + 35;
 
 // The script's bytes at the front of the room, so many, or the refusal.
 pub enum Written {
@@ -30,7 +35,7 @@ fn goal_node(sheet: &[u8]) -> NodeNumber
 
 // The line of the negated goal, and the script's end.
 fn goal_lines(sheet: &[u8], room: &mut [u8], at: usize) -> usize
-    requires { ⌜ (refusalOf (now sheet) ≡ none) × (at + 35 + length (textAt (now sheet) (nodeCount (now sheet) - 1)) ≤ length (now room)) ⌝ }
+    requires { ⌜ (refusalOf (now sheet) ≡ none) × (at + length (goalLines (now sheet)) ≤ length (now room)) ⌝ }
     ensures { λ r. ⌜ Wrote (goalLines (now (sheet .entry))) (now (room .entry)) (now (room .exit)) at r ⌝ }
 {
     let goal = goal_node(sheet);
@@ -58,7 +63,7 @@ fn script_len(sheet: &[u8]) -> usize
 {
     let count = header::variable_count(sheet);
     let goal = terms::term_len(sheet, goal_node(sheet));
-    lines::variables_len(count) + goal + 55
+    lines::variables_len(count) + goal + FRAME_BYTES
 }
 
 // The script of an accepted sheet, or refusal 9 at the bytes that it needs.

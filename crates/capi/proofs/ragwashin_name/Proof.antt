@@ -11,8 +11,8 @@ returns c =
 
 returns-2 : tie.Need-returns-2
 returns-2 c =
-    let a = c .before .before .before .args in
-    some-name (a .sheet .now) (a .variable) (name-part-size (a .variable) (c .before .name .ensures)) (c .if1 .left)
+    let a = c .before .before .before .before .args in
+    some-name (a .sheet .now) (a .variable) (name-part-size (a .variable) (c .before .before .name .ensures)) (c .variable-place .ensures) (c .before .if1 .left)
 
 pub ragwashin-name-spec : {M : Type 1} → statement M
 ragwashin-name-spec =
@@ -20,7 +20,7 @@ ragwashin-name-spec =
     (tie.spec
     (λ c κs. search needs)
     returns
-    (λ c. search needs)
+    (λ c κs. search needs)
     (λ c. search needs)
     (λ c. search needs)
     (λ c. search needs)

@@ -32,4 +32,5 @@ counts-right-spec =
     (λ c. search needs)
     (λ c. search needs)
     (λ c. search needs)
+    (λ c. search needs)
     returns-4)

@@ -1,4 +1,4 @@
--- `pieces::constant` meets its contract: the six bytes, digit by digit. Assumes nothing.
+-- `pieces::constant` meets its contract: its bytes, digit by digit. Assumes nothing.
 use borrow.Author.Needs.{needs}
 use Rattle.wording.specs.Sixteen.{hexText}
 use Rattle.room.proofs.RoomLaws.{wrote-as}

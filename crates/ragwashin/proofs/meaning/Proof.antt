@@ -11,10 +11,10 @@ chosen : {b c d : Bool} (this other : Word) → b ≡ c → b ≡ d → meant d 
 chosen this other e h = ap (λ (x : Bool). meant x this other) (sym h ∙ e)
 
 returns : tie.Need-returns
-returns c = chosen _ _ (c .before .same-text .ensures) (c .if1 .taken)
+returns c = chosen _ _ (c .before .same-bytes .ensures) (c .if1 .taken)
 
 returns-2 : tie.Need-returns-2
-returns-2 c = chosen _ _ (c .before .same-text .ensures) (c .if1 .left)
+returns-2 c = chosen _ _ (c .before .same-bytes .ensures) (c .if1 .left)
 
 pub meaning-spec : {M : Type 1} → statement M
 meaning-spec = tie.close (tie.spec (λ c κs. search needs) returns returns-2)

@@ -21,7 +21,7 @@ returns-3 : tie.Need-returns-3
 returns-3 c = sym (variable-wrong _ _ (λ v. omega (arith, v .short, c .before .before .byte-at .ensures)))
 
 returns-4 : tie.Need-returns-4
-returns-4 c = sym (variable-wrong _ _ (λ v. c .if4 .taken (v .gap)))
+returns-4 c = sym (variable-wrong _ _ (λ v. c .if4 .taken (c .before .zero-byte .ensures ∙ v .gap)))
 
 returns-5 : tie.Need-returns-5
 returns-5 c =
@@ -33,7 +33,7 @@ returns-6 c =
     let order = sym (c .before .before .before .before .before .before .before .before .before .before .ordered .ensures) ∙ not-false _ (c .before .before .before .before .before .before .before .before .before .if1 .left) in
     let name = sym (rw (c .before .before .before .name-in .ensures .bytes) at (c .before .before .name-right .ensures)) ∙ not-false _ (c .before .if5 .left) in
     let size = c .before .before .before .before .before .before .before .before .byte-at .ensures in
-    rw (size .0) at (c .clear .ensures) ∙ sym (variable-left _ _ order (omega (arith, size)) (omega (arith, size)) (c .before .before .before .before .if4 .left) name)
+    rw (size .0) at (c .clear .ensures) ∙ sym (variable-left _ _ order (omega (arith, size)) (omega (arith, size)) (sym (c .before .before .before .before .before .zero-byte .ensures) ∙ c .before .before .before .before .if4 .left) name)
 
 pub variable-right-spec : {M : Type 1} → statement M
 variable-right-spec =
@@ -46,8 +46,7 @@ variable-right-spec =
     (λ c. search needs)
     returns-2
     returns-3
-    (λ c. search needs)
-    (λ c. search needs)
+    (λ c κs. search needs)
     returns-4
     (λ c κs. search needs)
     (λ c κs. search needs)

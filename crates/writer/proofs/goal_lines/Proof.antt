@@ -5,18 +5,21 @@ use borrow.Author.Needs.{needs}
 use lib.ListN.{length}
 use Rattle.terms.specs.Texts.{textAt}
 use Rattle.room.proofs.RoomLaws.{wrote-as, chain3}
-use Rattle.writer.proofs.ScriptLaws.{goal-ready, goal-from}
+use Rattle.writer.proofs.ScriptLaws.{goal-ready, goal-length, goal-from}
 use Rattle.writer.proofs.goal_lines.Statement.{statement}
 use Rattle.writer.proofs.goal_lines.Tie as tie
 
+put-requires : tie.Need-put-requires
+put-requires c κs = omega (arith, goal-length _ (c .before .before .before .before .before .pre .0))
+
 operand-requires : tie.Need-operand-requires
-operand-requires c κs = let g = c .before .before .before .before .before .before .goal-node .ensures in (goal-ready _ (c .before .before .before .before .before .before .before .before .before .pre .0) g, omega (arith, ap (λ n. length (textAt (c .before .before .before .before .before .before .before .before .before .args .sheet .now) n)) g))
+operand-requires c κs = let g = c .before .before .before .before .before .before .goal-node .ensures in (goal-ready _ (c .before .before .before .before .before .before .before .before .before .pre .0) g, omega (arith, goal-length _ (c .before .before .before .before .before .before .before .before .before .pre .0), ap (λ n. length (textAt (c .before .before .before .before .before .before .before .before .before .args .sheet .now) n)) g))
 
 put-requires-2 : tie.Need-put-requires-2
-put-requires-2 c κs = omega (arith, ap (λ n. length (textAt (c .before .before .before .before .before .before .before .before .before .before .before .before .before .before .args .sheet .now) n)) (c .before .before .before .before .before .before .before .before .before .before .before .goal-node .ensures))
+put-requires-2 c κs = omega (arith, goal-length _ (c .before .before .before .before .before .before .before .before .before .before .before .before .before .before .pre .0), ap (λ n. length (textAt (c .before .before .before .before .before .before .before .before .before .before .before .before .before .before .args .sheet .now) n)) (c .before .before .before .before .before .before .before .before .before .before .before .goal-node .ensures))
 
 returns : tie.Need-returns
-returns c = wrote-as (chain3 (omega (arith, ap (λ n. length (textAt (c .before .before .before .before .before .before .before .before .before .before .before .before .before .before .before .before .before .args .sheet .now) n)) (c .before .before .before .before .before .before .before .before .before .before .before .before .before .before .goal-node .ensures))) (c .before .before .before .before .before .before .before .before .before .before .before .put .ensures) (c .before .before .before .before .before .before .before .operand .ensures) (c .before .before .put2 .ensures)) (goal-from _ (c .before .before .before .before .before .before .before .before .before .before .before .before .before .before .goal-node .ensures))
+returns c = wrote-as (chain3 (omega (arith, goal-length _ (c .before .before .before .before .before .before .before .before .before .before .before .before .before .before .before .before .before .pre .0), ap (λ n. length (textAt (c .before .before .before .before .before .before .before .before .before .before .before .before .before .before .before .before .before .args .sheet .now) n)) (c .before .before .before .before .before .before .before .before .before .before .before .before .before .before .goal-node .ensures))) (c .before .before .before .before .before .before .before .before .before .before .before .put .ensures) (c .before .before .before .before .before .before .before .operand .ensures) (c .before .before .put2 .ensures)) (goal-from _ (c .before .before .before .before .before .before .before .before .before .before .before .before .before .before .goal-node .ensures))
 
 pub goal-lines-spec : {M : Type 1} → statement M
 goal-lines-spec =
@@ -24,7 +27,7 @@ goal-lines-spec =
     (tie.spec
     (λ c κs. search needs)
     (λ c. search needs)
-    (λ c κs. search needs)
+    put-requires
     operand-requires
     (λ c. search needs)
     put-requires-2
