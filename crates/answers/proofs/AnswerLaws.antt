@@ -39,11 +39,12 @@ use Rattle.writer.specs.Writes.{scriptRefusal, writtenSaid, Writes}
 use Rattle.writer.specs.Writes.{verdict as scriptVerdict, roomAfter as scriptRoom}
 use Rattle.writer.proofs.ScriptLaws.{script-short}
 use Rattle.writer.specs.Writes.{enoughRoom}
-use Rattle.answers.specs.Answers.{numbersLine, refusalLine, answered, checkLine, answerText}
-use Rattle.answers.specs.Pieces.{Settled, failsLine}
+use Rattle.phrases.specs.Phrases.{numbersLine, refusalLine}
+use Rattle.phrases.specs.Pieces.{Settled, failsLine}
+use Rattle.phrases.proofs.NameValueLaws.{nameValues-are}
+use Rattle.answers.specs.Answers.{answered, checkLine, answerText}
 use Rattle.answers.specs.declared.Request.{Request}
 use Rattle.answers.specs.declared.Request.the-variants.{Read, Script, Check, Tally}
-use Rattle.answers.proofs.NameValueLaws.{nameValues-are}
 
 -- ---- a text at the room's front: its bytes are counted
 pub counted : {t before after : List ℕ} {r : ℕ} → Wrote t before after 0 r → Counts r after

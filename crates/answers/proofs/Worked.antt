@@ -31,9 +31,10 @@ use Rattle.reading.specs.Cascade.{refusalOf}
 use Rattle.wording.specs.Words.{wordOf}
 use Rattle.wording.specs.Sixteen.{hexDigit, hexText, literal, symbolText}
 use Rattle.wording.specs.Script.{joined, script}
+use Rattle.phrases.specs.Phrases.{decimalIn, decimal, signed, numbersLine, refusalLine, nameValue, nameValues}
 use Rattle.answers.specs.declared.Request.{Request}
 use Rattle.answers.specs.declared.Request.the-variants.{Read, Script, Check, Tally}
-use Rattle.answers.specs.Answers.{decimalIn, decimal, signed, numbersLine, refusalLine, answered, nameValue, nameValues, checkLine, answerText}
+use Rattle.answers.specs.Answers.{answered, checkLine, answerText}
 
 -- ---- numbers
 pub numbers : map signed (pos 0 ∷ pos 9 ∷ pos 10 ∷ pos 65535 ∷ negsuc 0 ∷ negsuc 32767 ∷ []) ≡ ascii "0" ∷ ascii "9" ∷ ascii "10" ∷ ascii "65535" ∷ ascii "-1" ∷ ascii "-32768" ∷ []

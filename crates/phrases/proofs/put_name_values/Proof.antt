@@ -5,10 +5,10 @@ use native.Mathlib.Omega.{arith}
 use lib.ListN.{length}
 use Rattle.room.specs.Room.{Wrote}
 use Rattle.room.proofs.RoomLaws.{wrote-as}
-use Rattle.answers.specs.Pieces.{nameValuesAt}
-use Rattle.answers.proofs.NameValueLaws.{few-variables, begin, turn}
-use Rattle.answers.proofs.put_name_values.Statement.{statement}
-use Rattle.answers.proofs.put_name_values.Tie as tie
+use Rattle.phrases.specs.Pieces.{nameValuesAt}
+use Rattle.phrases.proofs.NameValueLaws.{few-variables, begin, turn}
+use Rattle.phrases.proofs.put_name_values.Statement.{statement}
+use Rattle.phrases.proofs.put_name_values.Tie as tie
 
 abbrev Inv-loop : tie.InvT-loop
 Inv-loop sheet row count room₀ at next₀ i₀ room next i = (i ≤ count) × (next ≤ at + 24 * i) × (length room ≡ length room₀) × Wrote (nameValuesAt sheet row i) room₀ room at next

@@ -21,9 +21,9 @@ use Rattle.reading.proofs.RuleLaws.{accepted-counted, accepted-kept}
 use Rattle.room.specs.Room.{Wrote, texts}
 use Rattle.room.proofs.RoomLaws.{wrote-as, chain}
 use Rattle.room.proofs.TextLaws.{texts-more, wrote-no-texts}
-use Rattle.answers.specs.Answers.{signed, nameValue, nameValues}
-use Rattle.answers.specs.Pieces.{Named, nameValueAt, nameValuesAt, failsLine}
-use Rattle.answers.proofs.SignedLaws.{kept-is}
+use Rattle.phrases.specs.Phrases.{signed, nameValue, nameValues}
+use Rattle.phrases.specs.Pieces.{Named, nameValueAt, nameValuesAt, failsLine}
+use Rattle.phrases.proofs.SignedLaws.{kept-is}
 
 -- ---- a variable's name in an accepted sheet
 module _ (s : List ℕ) (e : refusalOf s ≡ none) where

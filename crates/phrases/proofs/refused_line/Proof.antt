@@ -1,8 +1,8 @@
 -- `refused_line` meets its contract: the line of the refusal's number and place. Assumes nothing.
 use borrow.Author.Needs.{needs}
-use Rattle.answers.specs.Answers.{refusalLine}
-use Rattle.answers.proofs.refused_line.Statement.{statement}
-use Rattle.answers.proofs.refused_line.Tie as tie
+use Rattle.phrases.specs.Phrases.{refusalLine}
+use Rattle.phrases.proofs.refused_line.Statement.{statement}
+use Rattle.phrases.proofs.refused_line.Tie as tie
 
 returns : tie.Need-returns
 unfolding refusalLine

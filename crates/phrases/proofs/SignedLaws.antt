@@ -15,8 +15,8 @@ use Rattle.lists.specs.Ascii.{ascii}
 use Rattle.numbers.proofs.Zed.{zed, side, pos-ud, negsuc-ud, sub-ud, abs-ud}
 use Rattle.numbers.proofs.OrderTests.{ltZ-true, ltZ-false}
 use Rattle.numbers.proofs.Fit.{narrow-ud, narrow-of-i16, i16-fits, minus-fits}
-use Rattle.answers.specs.Answers.{decimal, signed}
-use Rattle.answers.proofs.DecimalLaws.{decimal-5}
+use Rattle.phrases.specs.Phrases.{decimal, signed}
+use Rattle.phrases.proofs.DecimalLaws.{decimal-5}
 
 -- ---- by its sign
 below : (z : ℤ) → z <ℤ pos 0 → ascii "-" ++ decimal (natAbs z) ≡ signed z

@@ -11,7 +11,7 @@ use Rattle.layout.specs.Limits.{mostNameBytes}
 use Rattle.layout.specs.Parts.{variableCount, variableAt}
 use Rattle.reading.specs.Cascade.{refusalOf}
 use Rattle.room.specs.Room.{texts}
-use Rattle.answers.specs.Answers.{nameValue}
+use Rattle.phrases.specs.Phrases.{nameValue}
 
 -- the bytes are variable i's name, at most 16 of them
 pub record Named (s : List ℕ) (i : ℕ) (t : List ℕ) : Type 0 where

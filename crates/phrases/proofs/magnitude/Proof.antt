@@ -1,7 +1,7 @@
 -- `magnitude` meets its contract: 32 bits have room for a number of 16 bits and for its negation. Assumes nothing.
-use Rattle.answers.proofs.SignedLaws.{wide-fits, negated-fits, minus-cast, wide-cast, minus-size, wide-size}
-use Rattle.answers.proofs.magnitude.Statement.{statement}
-use Rattle.answers.proofs.magnitude.Tie as tie
+use Rattle.phrases.proofs.SignedLaws.{wide-fits, negated-fits, minus-cast, wide-cast, minus-size, wide-size}
+use Rattle.phrases.proofs.magnitude.Statement.{statement}
+use Rattle.phrases.proofs.magnitude.Tie as tie
 
 cast-wide : tie.Need-cast-wide
 cast-wide c = wide-fits (c .fits .z)

@@ -11,7 +11,7 @@ use lib.ListN.{length, take, length-append}
 use mir.Syntax.{w64}
 use mir.Val.{Fits}
 use Rattle.io.specs.Digits.{glyph, digits, Fewest}
-use Rattle.answers.specs.Answers.{decimalIn, decimal}
+use Rattle.phrases.specs.Phrases.{decimalIn, decimal}
 
 -- ---- the first digit alone, and one digit more
 one-digit : (f : ℕ) {n : ℕ} → n < 10 → decimalIn (suc f) n ≡ (48 + n) ∷ []

@@ -2,10 +2,10 @@
 use native.Mathlib.Omega.{arith}
 use borrow.Author.Needs.{needs}
 use Rattle.room.proofs.RoomLaws.{chain5}
-use Rattle.answers.specs.Answers.{numbersLine}
-use Rattle.answers.proofs.DecimalLaws.{decimal-20}
-use Rattle.answers.proofs.numbers_line.Statement.{statement}
-use Rattle.answers.proofs.numbers_line.Tie as tie
+use Rattle.phrases.specs.Phrases.{numbersLine}
+use Rattle.phrases.proofs.DecimalLaws.{decimal-20}
+use Rattle.phrases.proofs.numbers_line.Statement.{statement}
+use Rattle.phrases.proofs.numbers_line.Tie as tie
 
 put-decimal-requires : tie.Need-put-decimal-requires
 put-decimal-requires c κs =

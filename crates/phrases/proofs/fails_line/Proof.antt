@@ -3,9 +3,9 @@ use native.Mathlib.Omega.{arith}
 use borrow.Author.Needs.{needs}
 use Rattle.room.proofs.RoomLaws.{wrote-as, chain3}
 use Rattle.writer.proofs.ScriptLaws.{first-block}
-use Rattle.answers.proofs.NameValueLaws.{fails-from}
-use Rattle.answers.proofs.fails_line.Statement.{statement}
-use Rattle.answers.proofs.fails_line.Tie as tie
+use Rattle.phrases.proofs.NameValueLaws.{fails-from}
+use Rattle.phrases.proofs.fails_line.Statement.{statement}
+use Rattle.phrases.proofs.fails_line.Tie as tie
 
 variable-count-requires : tie.Need-variable-count-requires
 variable-count-requires c κs = first-block _ (c .before .before .pre .0 .accepted)

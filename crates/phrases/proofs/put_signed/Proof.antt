@@ -2,9 +2,9 @@
 use native.Mathlib.Omega.{arith}
 use borrow.Author.Needs.{needs}
 use Rattle.room.proofs.RoomLaws.{wrote-as, chain}
-use Rattle.answers.proofs.SignedLaws.{minus-length, plain-length, minus-text, plain-text}
-use Rattle.answers.proofs.put_signed.Statement.{statement}
-use Rattle.answers.proofs.put_signed.Tie as tie
+use Rattle.phrases.proofs.SignedLaws.{minus-length, plain-length, minus-text, plain-text}
+use Rattle.phrases.proofs.put_signed.Statement.{statement}
+use Rattle.phrases.proofs.put_signed.Tie as tie
 
 put-requires : tie.Need-put-requires
 put-requires c κs = omega (arith, minus-length (c .before .before .before .before .before .fits .z) (c .before .before .before .magnitude .ensures) (c .before .before .if1 .taken))

@@ -1,8 +1,8 @@
 -- `name_of` meets its contract: the name stands in the variable's record. Assumes nothing.
 use borrow.Author.Needs.{needs}
-use Rattle.answers.proofs.NameValueLaws.{record-inside, named}
-use Rattle.answers.proofs.name_of.Statement.{statement}
-use Rattle.answers.proofs.name_of.Tie as tie
+use Rattle.phrases.proofs.NameValueLaws.{record-inside, named}
+use Rattle.phrases.proofs.name_of.Statement.{statement}
+use Rattle.phrases.proofs.name_of.Tie as tie
 
 name-in-requires : tie.Need-name-in-requires
 name-in-requires c κs = record-inside _ (c .before .before .pre .0) (c .before .before .pre .1) (c .variable-place .ensures)

@@ -2,10 +2,10 @@
 use native.Mathlib.Omega.{arith}
 use borrow.Author.Needs.{needs}
 use Rattle.room.proofs.RoomLaws.{wrote-as, chain4}
-use Rattle.answers.proofs.NameValueLaws.{name-value-from}
-use Rattle.answers.proofs.SignedLaws.{signed-short}
-use Rattle.answers.proofs.put_name_value.Statement.{statement}
-use Rattle.answers.proofs.put_name_value.Tie as tie
+use Rattle.phrases.proofs.NameValueLaws.{name-value-from}
+use Rattle.phrases.proofs.SignedLaws.{signed-short}
+use Rattle.phrases.proofs.put_name_value.Statement.{statement}
+use Rattle.phrases.proofs.put_name_value.Tie as tie
 
 put-signed-requires : tie.Need-put-signed-requires
 put-signed-requires c κs = omega (arith, signed-short (c .before .before .before .before .before .before .before .before .before .before .before .before .before .before .before .before .before .before .fits .z))

@@ -4,9 +4,9 @@ use native.Mathlib.Omega.{arith}
 use borrow.Author.Needs.{needs}
 use lib.ListN.{length}
 use Rattle.room.proofs.RoomLaws.{wrote-as}
-use Rattle.answers.proofs.DecimalLaws.{digits-are}
-use Rattle.answers.proofs.put_decimal.Statement.{statement}
-use Rattle.answers.proofs.put_decimal.Tie as tie
+use Rattle.phrases.proofs.DecimalLaws.{digits-are}
+use Rattle.phrases.proofs.put_decimal.Statement.{statement}
+use Rattle.phrases.proofs.put_decimal.Tie as tie
 
 put-requires : tie.Need-put-requires
 put-requires c κs = omega (arith, ap length (digits-are (c .before .before .before .before .before .args .n) (c .before .before .decimal .result) _ (c .before .before .decimal .ensures .1 .0) (c .before .before .decimal .ensures .1 .1)))
