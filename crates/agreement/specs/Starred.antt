@@ -18,8 +18,7 @@ use Rattle.reading.specs.Cascade.{refusalOf}
 use Rattle.cases.specs.Checks.{tryRefusal, checkRefusal, verdict, roomAfter}
 use Rattle.cases.specs.Tallies.{unlessRefused}
 use Rattle.wording.specs.Script.{script}
-use Rattle.writer.specs.Writes.{scriptRefusal}
-use Rattle.writer.specs.Writes.{verdict as scriptVerdict, roomAfter as scriptRoom}
+use Rattle.writer.specs.Writes.{scriptRefusal, scriptVerdict, scriptRoom}
 
 -- a block: its first bytes, zeros up to 510, and the stored check's two bytes
 abbrev pub block : List ℕ → ℕ → ℕ → List ℕ

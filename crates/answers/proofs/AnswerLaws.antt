@@ -35,10 +35,8 @@ use Rattle.room.specs.Room.{within, over, Wrote}
 use Rattle.room.proofs.RoomLaws.{wrote-as}
 use Rattle.writer.specs.declared.Written.{Written}
 use Rattle.writer.specs.declared.Written.the-variants.{Script as written, Refused as writeRefused}
-use Rattle.writer.specs.Writes.{scriptRefusal, writtenSaid, Writes}
-use Rattle.writer.specs.Writes.{verdict as scriptVerdict, roomAfter as scriptRoom}
+use Rattle.writer.specs.Writes.{enoughRoom, scriptRefusal, writtenSaid, scriptVerdict, scriptRoom, Writes}
 use Rattle.writer.proofs.ScriptLaws.{script-short}
-use Rattle.writer.specs.Writes.{enoughRoom}
 use Rattle.phrases.specs.Phrases.{numbersLine, refusalLine}
 use Rattle.phrases.specs.Pieces.{Settled, failsLine}
 use Rattle.phrases.proofs.NameValueLaws.{nameValues-are}

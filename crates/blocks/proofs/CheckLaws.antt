@@ -35,8 +35,8 @@ pub check-start : (k : ℕ) → (k + 1) % modulus ≡ checkOf k []
 unfolding checkOf weighted
 check-start k = simp add-zero
 
--- from the check of the first i bytes and byte i's term to the check of one byte more
-pub check-next : (k : ℕ) (l : List ℕ) {i sum term : ℕ} → sum ≡ checkOf k (take i l) → term ≡ (i + 1) * byteAt l i → i < length l → (sum + term) % modulus ≡ checkOf k (take (i + 1) l)
+-- from the check of the first i bytes and byte i, weighed, to the check of one byte more
+pub check-next : (k : ℕ) (l : List ℕ) {i sum more : ℕ} → sum ≡ checkOf k (take i l) → more ≡ (i + 1) * byteAt l i → i < length l → (sum + more) % modulus ≡ checkOf k (take (i + 1) l)
 unfolding checkOf
 check-next k l {i} e f h = rw (e, f, weighted-take l i h, mod-add-mod, ← add-assoc (k + 1))
 
@@ -47,5 +47,5 @@ pub check-lt : (k : ℕ) (l : List ℕ) → checkOf k l < modulus
 unfolding checkOf
 check-lt k l = omega arith
 
-pub term-le : {i b : ℕ} → i < contentBytes → b < 256 → (i + 1) * b ≤ 130050
-term-le hi hb = mul-le-mul {n₂ = contentBytes} {m₂ = 255} (omega arith) (omega arith)
+pub weighed-le : {i b : ℕ} → i < contentBytes → b < 256 → (i + 1) * b ≤ 130050
+weighed-le hi hb = mul-le-mul {n₂ = contentBytes} {m₂ = 255} (omega arith) (omega arith)

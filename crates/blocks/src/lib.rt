@@ -16,7 +16,7 @@ use numbers::Refusal;
 use refusals::Reading;
 
 // A content byte times its weight.
-fn term(content: &[u8], i: usize) -> usize
+fn weighed(content: &[u8], i: usize) -> usize
     requires { ⌜ (i < length (now content)) × (i < contentBytes) ⌝ }
     ensures { λ r. ⌜ (r ≡ (i + 1) * byteAt (now (content .entry)) i) × (r ≤ contentBytes * 255) ⌝ }
 {
@@ -31,7 +31,7 @@ fn check_of(k: usize, content: &[u8]) -> usize
     let mut sum: usize = (k + 1) % MODULUS;
     let mut i = 0;
     while i < content.len() {
-        sum = (sum + term(content, i)) % MODULUS;
+        sum = (sum + weighed(content, i)) % MODULUS;
         i += 1;
     }
     sum

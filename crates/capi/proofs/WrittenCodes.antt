@@ -15,7 +15,7 @@ use Rattle.cases.specs.Tallies.{unlessRefused}
 use Rattle.wording.specs.Script.{script}
 use Rattle.writer.specs.declared.Written.{Written}
 use Rattle.writer.specs.declared.Written.the-variants.{Refused}
-use Rattle.writer.specs.Writes.{enoughRoom, scriptRefusal, writtenSaid, verdict, Writes}
+use Rattle.writer.specs.Writes.{enoughRoom, scriptRefusal, writtenSaid, scriptVerdict, Writes}
 use Rattle.writer.proofs.ScriptLaws.{script-short}
 use Rattle.capi.specs.Codes.{codeOf, codeSaid, ScriptCodes}
 use Rattle.capi.proofs.CodeLaws.{code-tells}
@@ -24,7 +24,7 @@ use Rattle.capi.proofs.CodeLaws.{code-tells}
 abbrev writtenCode : Option Refusal × ℕ → ℕ
 writtenCode v = codeOf (v .0) (v .1)
 
-written-code-by : (o : Option Refusal) (t : List ℕ) → writtenCode (verdict o t) ≡ codeOf o (length t)
+written-code-by : (o : Option Refusal) (t : List ℕ) → writtenCode (scriptVerdict o t) ≡ codeOf o (length t)
 written-code-by none t = refl
 written-code-by (some r) t = refl
 
@@ -50,7 +50,7 @@ module _ (s : List ℕ) where
       answered e = omega (arith, script-short s (passed (refusalOf s) (length (script (ruleIn s))) (length before) 9 (length (script (ruleIn s))) e .0))
 
   module _ {before after : List ℕ} {a : Written} (c : Writes s before a after) where
-    answer-is : {v : Option Refusal × ℕ} → writtenSaid a ≡ v → verdict (scriptRefusal s (length before)) (script (ruleIn s)) ≡ v
+    answer-is : {v : Option Refusal × ℕ} → writtenSaid a ≡ v → scriptVerdict (scriptRefusal s (length before)) (script (ruleIn s)) ≡ v
     answer-is e = sym (c .answer) ∙ e
 
     pub written-code : {n : ℕ} {v : Option Refusal × ℕ} → writtenSaid a ≡ v → n ≡ writtenCode v → ScriptCodes s before n after
@@ -59,6 +59,6 @@ module _ (s : List ℕ) where
     pub written-place : {r : Refusal} → a ≡ Refused r → r .place ≤ enoughRoom
     written-place {r} d = go (scriptRefusal s (length before)) refl (answer-is (ap writtenSaid d))
       where
-        go : (o : Option Refusal) → scriptRefusal s (length before) ≡ o → verdict o (script (ruleIn s)) ≡ (some r, 0) → r .place ≤ enoughRoom
+        go : (o : Option Refusal) → scriptRefusal s (length before) ≡ o → scriptVerdict o (script (ruleIn s)) ≡ (some r, 0) → r .place ≤ enoughRoom
         go none q w = absurd (let z : _≡_ {A = ℕ} 0 1 = cc (ap (λ (p : Option Refusal × ℕ). p .0) w) in omega arith)
         go (some t) q w = script-small (length before) (q ∙ ap (λ (p : Option Refusal × ℕ). p .0) w) .1

@@ -15,7 +15,7 @@ use Rattle.reading.specs.Cascade.{refusalOf}
 use Rattle.reading.specs.Name.{nameGiven}
 use Rattle.cases.specs.Checks.{tryRefusal, checkRefusal, isSome, roomAfter}
 use Rattle.wording.specs.Script.{script}
-use Rattle.writer.specs.Writes.{scriptRefusal, roomAfter as scriptRoom}
+use Rattle.writer.specs.Writes.{scriptRefusal, scriptRoom}
 
 -- high 16 bits the refusal's number, low 48 bits its place
 abbrev pub refusalCode : Refusal → ℕ

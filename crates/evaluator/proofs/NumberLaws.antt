@@ -2,11 +2,11 @@
 use Prim.Native.Nat.{ℕ}
 use mathlib.Core.Path.{_≡_, refl, ap, ap₂}
 use mathlib.Core.Bool.{Bool, true, false, not, _&&_, _||_}
-use borrow.Author.Tests.{eq-eqb, ne-eqb}
-use lib.IntN.{ℤ, pos, negsuc, negℤ, _+ℤ_, _-ℤ_, _*ℤ_}
+use lib.IntN.{ℤ, pos, negℤ, _+ℤ_, _-ℤ_, _*ℤ_}
 use Rattle.meaning.specs.declared.Sort.{Sort}
 use Rattle.meaning.specs.Tree.{Tree, tru, fls, neg, conj, disj, implies, iff, equal, less, atMost, const, var, minus, sum, difference, product, ite}
 use Rattle.meaning.specs.Value.{implied, equivalent, equals, chosen, value}
+use Rattle.meaning.proofs.Equals.{equals-same}
 use Rattle.kinds.specs.Rows.{by-rows}
 use Rattle.layout.specs.Fold.{ofTree}
 use Rattle.evaluator.specs.Numbers.{bit, numberOf, isTrue, numberStep}
@@ -46,18 +46,8 @@ pub bit-no : {a : Bool} → a ≡ false → pos 0 ≡ bit a
 bit-no e = rw e
 
 -- ---- the test of equality
-equals-same : (x : ℤ) → equals x x ≡ true
-equals-same (pos n) = eq-eqb n n refl
-equals-same (negsuc n) = eq-eqb n n refl
-
 pub equals-true : {x y : ℤ} → x ≡ y → equals x y ≡ true
 equals-true {x} {y} e = rw (← e) (equals-same x)
-
-pub equals-false : (x y : ℤ) → (x ≡ y → ⊥) → equals x y ≡ false
-equals-false (pos m) (pos n) h = ne-eqb m n (λ e. h (ap pos e))
-equals-false (pos m) (negsuc n) h = refl
-equals-false (negsuc m) (pos n) h = refl
-equals-false (negsuc m) (negsuc n) h = ne-eqb m n (λ e. h (ap negsuc e))
 
 -- ---- a tree's number, where variable i has the value ρ i
 module _ (ρ : ℕ → ℤ) where

@@ -31,7 +31,7 @@ pub fn declarations(room: &mut [u8], at: usize, count: usize) -> usize
     next
 }
 
-// A range line up to the lower end, which is given by its bits.
+// A range line up to its first symbol, with the lower end by its bits.
 fn range_start(room: &mut [u8], at: usize, n: VariableNumber, low: u16) -> usize
     requires { ⌜ (n .0 < mostVariables) × (at + startBytes (n .0) ≤ length (now room)) ⌝ }
     ensures { λ r. ⌜ Wrote (rangeStart low (n .0)) (now (room .entry)) (now (room .exit)) at r ⌝ }

@@ -9,3 +9,4 @@ pub mod Row
 pub mod Advancing
 pub mod Rounds
 pub mod Worked
+pub mod Equals

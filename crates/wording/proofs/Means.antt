@@ -4,7 +4,7 @@ use mathlib.Core.Bool.{Bool, true, false, cond, not, _||_, Bool·beq}
 use mathlib.Core.List.{List}
 use Prim.Native.Nat.{ℕ, _≤_, _<_}
 use lib.Dec.{eqb}
-use lib.IntN.{ℤ, pos, negsuc, negℤ, _+ℤ_, _-ℤ_, _*ℤ_, ℤ-discrete}
+use lib.IntN.{ℤ, negℤ, _+ℤ_, _-ℤ_, _*ℤ_, ℤ-discrete}
 use lib.Signed.{ltZ, leZ}
 use borrow.Author.Tests.{eq-eqb, ne-eqb}
 use Rattle.lists.specs.Ascii.{ascii}
@@ -15,6 +15,7 @@ use Rattle.meaning.specs.declared.Sort.{Sort}
 use Rattle.meaning.specs.declared.Sort.the-variants.{Truth, Integer}
 use Rattle.meaning.specs.Tree.{Tree, tru, fls, neg, conj, disj, implies, iff, equal, less, atMost, const, var, minus, sum, difference, product, ite}
 use Rattle.meaning.specs.Value.{Of, implied, equivalent, equals, chosen, value as meant}
+use Rattle.meaning.proofs.Equals.{equals-same, equals-false}
 use Rattle.kinds.specs.Rows.{by-rows, Throughout}
 use Rattle.kinds.proofs.ClaimLaws.{own}
 use Rattle.layout.specs.Fold.{ofTree}
@@ -45,16 +46,6 @@ ite-is : (w : ℕ) (c : Bool) (x y : ℤ) → cond c (enc w x) (enc w y) ≡ enc
 ite-is w true x y = refl
 ite-is w false x y = refl
 
-equals-self : (x : ℤ) → equals x x ≡ true
-equals-self (pos a) = eq-eqb a a refl
-equals-self (negsuc a) = eq-eqb a a refl
-
-equals-not : (x y : ℤ) → (x ≡ y → ⊥) → equals x y ≡ false
-equals-not (pos a) (pos b) h = ne-eqb a b (λ e. h (ap pos e))
-equals-not (pos a) (negsuc b) h = refl
-equals-not (negsuc a) (pos b) h = refl
-equals-not (negsuc a) (negsuc b) h = ne-eqb a b (λ e. h (ap negsuc e))
-
 -- ---- the bit vectors' functions are those of the integers that they stand for
 neg-is : (w : ℕ) (x : ℤ) → bvneg w (enc w x) ≡ enc w (negℤ x)
 unfolding bvneg
@@ -79,8 +70,8 @@ module _ {w : ℕ} (one : 1 ≤ w) {x y : ℤ} (f : Within w x) (g : Within w y)
   equal-is = by (ℤ-discrete x y)
     where
       by : Dec (x ≡ y) → eqb (enc w x) (enc w y) ≡ equals x y
-      by (yes e) = rw e (eq-eqb (enc w y) (enc w y) refl ∙ sym (equals-self y))
-      by (no e) = ne-eqb (enc w x) (enc w y) (λ p. e (enc-inj w one f g p)) ∙ sym (equals-not x y e)
+      by (yes e) = rw e (eq-eqb (enc w y) (enc w y) refl ∙ sym (equals-same y))
+      by (no e) = ne-eqb (enc w x) (enc w y) (λ p. e (enc-inj w one f g p)) ∙ sym (equals-false x y e)
 
   slt-is : bvslt w (enc w x) (enc w y) ≡ ltZ x y
   slt-is = bvslt-is w (enc w x) (enc w y) one (enc-lt w x) (enc-lt w y) ∙ less-is w one x y f g

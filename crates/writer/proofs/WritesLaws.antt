@@ -20,12 +20,12 @@ use Rattle.room.specs.Room.{over, Wrote}
 use Rattle.room.proofs.RoomLaws.{wrote-over}
 use Rattle.writer.specs.declared.Written.{Written}
 use Rattle.writer.specs.declared.Written.the-variants.{Script, Refused}
-use Rattle.writer.specs.Writes.{scriptRefusal, writtenSaid, verdict, roomAfter, Writes}
+use Rattle.writer.specs.Writes.{scriptRefusal, writtenSaid, scriptVerdict, scriptRoom, Writes}
 
 module _ (s : List ℕ) where
   -- what the refusal makes of the answer and of the room
   refused-with : (before : List ℕ) {r : Refusal} → scriptRefusal s (length before) ≡ some r → Writes s before (Refused r) before
-  refused-with before d = record { answer = ap (λ (o : Option Refusal). verdict o (script (ruleIn s))) (sym d); room = ap (λ (o : Option Refusal). roomAfter o (script (ruleIn s)) before) (sym d) }
+  refused-with before d = record { answer = ap (λ (o : Option Refusal). scriptVerdict o (script (ruleIn s))) (sym d); room = ap (λ (o : Option Refusal). scriptRoom o (script (ruleIn s)) before) (sym d) }
 
   pub sheet-refused : (before : List ℕ) {a : Reading} {r : Refusal} → saidOf a ≡ refusalOf s → a ≡ refused r → Writes s before (Refused r) before
   unfolding scriptRefusal
@@ -44,8 +44,8 @@ module _ (s : List ℕ) where
     script-written {before} {after} l w =
         let d : scriptRefusal s (length before) ≡ none = passes (length (script (ruleIn s))) (length before) 9 _ ok l in
         record {
-          answer = ap (λ (k : ℕ). (none, k)) (w .place ∙ zero-add _) ∙ ap (λ (o : Option Refusal). verdict o (script (ruleIn s))) (sym d);
-          room = wrote-over w ∙ ap (λ (o : Option Refusal). roomAfter o (script (ruleIn s)) before) (sym d);
+          answer = ap (λ (k : ℕ). (none, k)) (w .place ∙ zero-add _) ∙ ap (λ (o : Option Refusal). scriptVerdict o (script (ruleIn s))) (sym d);
+          room = wrote-over w ∙ ap (λ (o : Option Refusal). scriptRoom o (script (ruleIn s)) before) (sym d);
         }
 
 -- ---- a script that is written
@@ -57,7 +57,7 @@ module _ (s : List ℕ) {before after : List ℕ} {a : Written} (c : Writes s be
   pub script-fits : n ≤ length after
   script-fits = go (scriptRefusal s (length before)) (sym (c .answer) ∙ ap writtenSaid d) (c .room)
     where
-      go : (o : Option Refusal) → verdict o (script (ruleIn s)) ≡ (none, n) → after ≡ roomAfter o (script (ruleIn s)) before → n ≤ length after
+      go : (o : Option Refusal) → scriptVerdict o (script (ruleIn s)) ≡ (none, n) → after ≡ scriptRoom o (script (ruleIn s)) before → n ≤ length after
       go none w e = omega (arith, over-length (script (ruleIn s)) before, ap length e, ap (λ (p : Option Refusal × ℕ). p .1) w)
       go (some t) w e = absurd (let z : _≡_ {A = ℕ} 0 1 = cc (ap (λ (p : Option Refusal × ℕ). p .0) w) in omega arith)
 

@@ -29,14 +29,14 @@ writtenSaid (Script n) = (none, n)
 writtenSaid (Refused r) = (some r, 0)
 
 -- the answer where t is the script, and the room afterwards: a refusal changes nothing
-abbrev pub verdict : Option Refusal → List ℕ → Option Refusal × ℕ
-verdict none t = (none, length t)
-verdict (some r) t = (some r, 0)
+abbrev pub scriptVerdict : Option Refusal → List ℕ → Option Refusal × ℕ
+scriptVerdict none t = (none, length t)
+scriptVerdict (some r) t = (some r, 0)
 
-abbrev pub roomAfter : Option Refusal → List ℕ → List ℕ → List ℕ
-roomAfter none t room = over t room
-roomAfter (some r) t room = room
+abbrev pub scriptRoom : Option Refusal → List ℕ → List ℕ → List ℕ
+scriptRoom none t room = over t room
+scriptRoom (some r) t room = room
 
 pub record Writes (s before : List ℕ) (r : Written) (after : List ℕ) : Type 0 where
-  pub answer : writtenSaid r ≡ verdict (scriptRefusal s (length before)) (script (ruleIn s))
-  pub room : after ≡ roomAfter (scriptRefusal s (length before)) (script (ruleIn s)) before
+  pub answer : writtenSaid r ≡ scriptVerdict (scriptRefusal s (length before)) (script (ruleIn s))
+  pub room : after ≡ scriptRoom (scriptRefusal s (length before)) (script (ruleIn s)) before

@@ -21,7 +21,7 @@ add-sum-2 c =
 
 loop-again : tie.Need-loop-again Inv-loop μ-loop
 loop-again c =
-    (search needs, check-next _ _ (c .before .before .loop .inv .1) (c .term .ensures .0) (search needs))
+    (search needs, check-next _ _ (c .before .before .loop .inv .1) (c .weighed .ensures .0) (search needs))
 
 returns : tie.Need-returns Inv-loop μ-loop
 returns c = check-end _ _ (c .before .loop .inv .1) (c .loop-test .left)

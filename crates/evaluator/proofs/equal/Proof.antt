@@ -3,7 +3,8 @@ use mathlib.Core.Path.{sym, ap, _∙_}
 use mir.Syntax.{w32}
 use mir.Val.{toZ, ofZ}
 use mir.Facts.{toZ-ofZ}
-use Rattle.evaluator.proofs.NumberLaws.{bit-yes, bit-no, equals-true, equals-false}
+use Rattle.meaning.proofs.Equals.{equals-false}
+use Rattle.evaluator.proofs.NumberLaws.{bit-yes, bit-no, equals-true}
 use Rattle.evaluator.proofs.equal.Statement.{statement}
 use Rattle.evaluator.proofs.equal.Tie as tie
 
