@@ -1,5 +1,5 @@
 -- A sheet that is not refused is laid out right and holds a lawful rule, and the other way round; so rules and accepted sheets match. Assumes nothing.
-use Prim.Native.Nat.{ℕ, zero, suc, _+_, _-_, _≤_, _<_}
+use Prim.Native.Nat.{ℕ, zero, suc, _+_, _-_, _≤_, _<_, zero-le}
 use mathlib.Core.Path.{_≡_, refl, sym, ap, subst, _∙_}
 use mathlib.Core.Logic.{_↔_}
 use mathlib.Core.Bool.{true}
@@ -104,7 +104,7 @@ module _ (s : List ℕ) where
       let a = neither _ _ e in
       let b = neither _ _ (a .1) in
       record {
-        each = λ n h. node-right n (first-none (nodeRefusal s) (nodeCount s) 0 (a .0) n (omega arith) (rw zero-add h));
+        each = λ n h. node-right n (first-none (nodeRefusal s) (nodeCount s) 0 (a .0) n zero-le (rw zero-add h));
         whole = eqb-true _ 0 (unless-none _ 6 _ (b .0));
         goal = decides-same _ Truth .0 (unless-none _ 7 _ (b .1));
       }
