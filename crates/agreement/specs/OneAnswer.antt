@@ -9,7 +9,7 @@ use denote.Ref.{RefT}
 use lib.IntN.{ℤ}
 use Rattle.lists.specs.Part.{PartAt, SamePart}
 use Rattle.numbers.specs.declared.Range.{Range}
-use Rattle.numbers.specs.declared.Refusal.{Refusal}
+use Rattle.refusals.specs.declared.Refusal.{Refusal}
 use Rattle.meaning.specs.Odometer.{Lowered, Advanced}
 use Rattle.refusals.specs.declared.Reading.{Reading}
 use Rattle.refusals.specs.Said.{saidOf}

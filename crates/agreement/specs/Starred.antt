@@ -7,7 +7,7 @@ use mathlib.Core.Option.{Option, none, some}
 use lib.IntN.{ℤ, pos, negsuc}
 use lib.ListN.{length, replicate}
 use Rattle.lists.specs.Ascii.{ascii}
-use Rattle.numbers.specs.declared.Refusal.{Refusal}
+use Rattle.refusals.specs.declared.Refusal.{Refusal}
 use Rattle.numbers.specs.Ranges.{_⋯_}
 use Rattle.meaning.specs.Cases.{firstFailure, held, failed}
 use Rattle.layout.specs.Parts.{ruleIn}

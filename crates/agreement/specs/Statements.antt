@@ -8,7 +8,7 @@ use mathlib.Core.Option.{none, some}
 use lib.IntN.{ℤ}
 use lib.ListN.{length, set, take}
 use Rattle.lists.specs.Places.{from, NoRepeats}
-use Rattle.numbers.specs.declared.Refusal.{Refusal}
+use Rattle.refusals.specs.declared.Refusal.{Refusal}
 use Rattle.numbers.specs.Two.{enc}
 use Rattle.numbers.specs.Bytes.{byteAt, Bytes}
 use Rattle.meaning.specs.Rule.{Rule}

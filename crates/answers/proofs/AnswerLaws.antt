@@ -12,7 +12,7 @@ use lib.Seq.{take-at, getD-take, length-take-le}
 use Rattle.io.specs.Counts.{Counts}
 use Rattle.lists.specs.Ascii.{ascii}
 use Rattle.lists.proofs.FirstLaws.{otherwise-some}
-use Rattle.numbers.specs.declared.Refusal.{Refusal}
+use Rattle.refusals.specs.declared.Refusal.{Refusal}
 use Rattle.numbers.specs.Bytes.{Bytes}
 use Rattle.meaning.specs.Cases.{firstFailure, held, failed}
 use Rattle.meaning.proofs.Failures.{first-fails}

@@ -4,7 +4,7 @@ use mathlib.Core.List.{List, _++_}
 use mathlib.Core.Option.{Option, none, some}
 use lib.IntN.{ℤ}
 use Rattle.lists.specs.Ascii.{ascii}
-use Rattle.numbers.specs.declared.Refusal.{Refusal}
+use Rattle.refusals.specs.declared.Refusal.{Refusal}
 use Rattle.meaning.specs.Rule.{Rule}
 use Rattle.meaning.specs.Cases.{firstFailure, held, failed}
 use Rattle.layout.specs.Parts.{ruleIn}

@@ -6,7 +6,7 @@ use mathlib.Core.Option.{Option}
 use lib.Dec.{eqb, leb}
 use lib.ListN.{length}
 use Rattle.lists.specs.First.{_otherwise_, first}
-use Rattle.numbers.specs.declared.Refusal.{Refusal}
+use Rattle.refusals.specs.declared.Refusal.{Refusal}
 use Rattle.layout.specs.Limits.{blockBytes, mostBlocks}
 use Rattle.layout.specs.Checks.{blockRight}
 use Rattle.refusals.specs.Said.{unless}

@@ -12,8 +12,8 @@ use layout::BLOCK_BYTES;
 use layout::CONTENT_BYTES;
 use layout::MODULUS;
 use layout::MOST_BLOCKS;
-use numbers::Refusal;
 use refusals::Reading;
+use refusals::Refusal;
 
 // A content byte times its weight.
 fn weighed(content: &[u8], i: usize) -> usize

@@ -7,7 +7,7 @@ use mathlib.Core.Option.{Option, none, some}
 use native.Mathlib.Omega.{arith}
 use lib.IntN.{ℤ}
 use lib.ListN.{length}
-use Rattle.numbers.specs.declared.Refusal.{Refusal}
+use Rattle.refusals.specs.declared.Refusal.{Refusal}
 use Rattle.meaning.specs.Cases.{firstFailure, held, failed}
 use Rattle.meaning.proofs.Counts.{case-count, held-failed}
 use Rattle.layout.specs.Limits.{mostNodes}

@@ -10,7 +10,7 @@ use denote.Ref.{RefT}
 use lib.Dec.{ltb}
 use lib.ListN.{length, take, drop, length-take, length-drop}
 use Rattle.lists.proofs.TestLaws.{both}
-use Rattle.numbers.specs.declared.Refusal.{Refusal}
+use Rattle.refusals.specs.declared.Refusal.{Refusal}
 use Rattle.layout.specs.Limits.{blockBytes, contentBytes, mostNameBytes, nameStart, mostVariables, mostNodes, variablePlace}
 use Rattle.layout.specs.Parts.{variableCount, nameSize}
 use Rattle.refusals.specs.declared.Reading.{Reading}

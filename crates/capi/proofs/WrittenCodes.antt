@@ -6,7 +6,7 @@ use mathlib.Core.List.{List}
 use mathlib.Core.Option.{Option, none, some}
 use native.Mathlib.Omega.{arith}
 use lib.ListN.{length}
-use Rattle.numbers.specs.declared.Refusal.{Refusal}
+use Rattle.refusals.specs.declared.Refusal.{Refusal}
 use Rattle.layout.specs.Parts.{ruleIn}
 use Rattle.refusals.proofs.AfterLaws.{passed, stopped}
 use Rattle.reading.specs.Cascade.{refusalOf}

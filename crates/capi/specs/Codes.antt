@@ -6,7 +6,7 @@ use mathlib.Core.List.{List}
 use mathlib.Core.Option.{Option, none, some}
 use lib.IntN.{ℤ}
 use lib.ListN.{length}
-use Rattle.numbers.specs.declared.Refusal.{Refusal}
+use Rattle.refusals.specs.declared.Refusal.{Refusal}
 use Rattle.meaning.specs.Cases.{firstFailure, held, failed}
 use Rattle.layout.specs.Limits.{contentBytes, nameStart, variablePlace}
 use Rattle.layout.specs.Parts.{nameSize, ruleIn}

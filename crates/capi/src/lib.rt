@@ -4,9 +4,9 @@ ghost use Prim.Native.Nat.{_<_, _^_};
 ghost use Rattle.capi.specs.Codes.{readCode, nameCode, blockCode, refusalCode, CheckCodes, tallyCode, ScriptCodes};
 use cases::Checked;
 use layout::NAME_START;
-use numbers::Refusal;
 use numbers::VariableNumber;
 use refusals::Reading;
+use refusals::Refusal;
 use writer::Written;
 
 const NUMBER: u64 = 281474976710656;

@@ -13,7 +13,7 @@ use lib.Dec.{eqb}
 use lib.ListN.{length}
 use Rattle.lists.specs.Places.{allBelow}
 use Rattle.lists.proofs.TestLaws.{both, and, all-true, all-of}
-use Rattle.numbers.specs.declared.Refusal.{Refusal}
+use Rattle.refusals.specs.declared.Refusal.{Refusal}
 use Rattle.layout.specs.Limits.{blockBytes, contentBytes, mostVariables, nodeBytes, mostNodes, blocksFor, variablePlace, nodePlace}
 use Rattle.layout.specs.Parts.{edition, nodeCount, variableCount, usedInNodeBlock, Zeros}
 use Rattle.header.specs.Header.{zeros, countsRight, usedIn, tailClear, outsideClear, header, Counted}

@@ -14,8 +14,8 @@ use layout::MOST_VARIABLES;
 use layout::NODE_BYTES;
 use layout::NODES_IN_BLOCK;
 use layout::VARIABLE_BYTES;
-use numbers::Refusal;
 use refusals::Reading;
+use refusals::Refusal;
 
 // N, the number of nodes.
 pub fn node_count(sheet: &[u8]) -> usize

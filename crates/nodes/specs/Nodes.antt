@@ -6,7 +6,7 @@ use mathlib.Core.Option.{Option}
 use lib.Dec.{eqb}
 use Rattle.lists.specs.First.{_otherwise_, first}
 use Rattle.numbers.specs.declared.Range.{Range}
-use Rattle.numbers.specs.declared.Refusal.{Refusal}
+use Rattle.refusals.specs.declared.Refusal.{Refusal}
 use Rattle.meaning.specs.declared.Sort.{Sort}
 use Rattle.meaning.specs.declared.Sort.the-variants.{Truth as truth}
 use Rattle.meaning.specs.Rule.{domainOf}

@@ -8,8 +8,8 @@ use findings::Finding;
 use findings::Step;
 use layout::MOST_NODES;
 use numbers::NodeNumber;
-use numbers::Refusal;
 use refusals::Reading;
+use refusals::Refusal;
 
 // What is answered where no node is refused: start is where the goal's subtree starts, f what the goal is found to be.
 fn read_goal(start: u16, f: Finding, place: usize) -> Reading

@@ -11,12 +11,6 @@ pub struct VariableNumber(pub u16);
 
 pub struct NodeNumber(pub u16);
 
-// Why a sheet is turned away: document 01's number, and the place.
-pub struct Refusal {
-    pub number: u16,
-    pub place: usize,
-}
-
 // The integers from low to high.
 pub struct Range {
     pub low: i32,

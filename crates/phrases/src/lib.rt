@@ -10,8 +10,8 @@ ghost use Rattle.room.specs.Room.{Wrote};
 ghost use Rattle.writer.specs.Writes.{enoughRoom};
 ghost use Rattle.phrases.specs.Phrases.{decimal, signed, numbersLine, refusalLine, nameValue};
 ghost use Rattle.phrases.specs.Pieces.{Named, Settled, nameValuesAt, failsLine};
-use numbers::Refusal;
 use numbers::VariableNumber;
+use refusals::Refusal;
 
 // A number in decimal, from a place of the room on; the place behind it.
 fn put_decimal(room: &mut [u8], at: usize, n: u64) -> usize

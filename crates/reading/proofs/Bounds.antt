@@ -6,7 +6,7 @@ use mathlib.Core.Option.{some}
 use native.Mathlib.Decide.{decLt}
 use native.Mathlib.Omega.{arith}
 use lib.ListN.{length}
-use Rattle.numbers.specs.declared.Refusal.{Refusal}
+use Rattle.refusals.specs.declared.Refusal.{Refusal}
 use Rattle.layout.specs.Limits.{blockBytes, mostBlocks, mostNodes, mostVariables}
 use Rattle.layout.specs.Parts.{nodeCount, variableCount}
 use Rattle.reading.specs.Rows.{long, nodes, variables, no-node, row-1, row-2, row-3, row-4, row-5, goal-6, goal-7, Applies, whole, node, after}

@@ -6,7 +6,7 @@ use mathlib.Core.List.{List}
 use mathlib.Core.Option.{Option, none, some}
 use native.Mathlib.Decide.{decLt}
 use native.Mathlib.Omega.{arith}
-use Rattle.numbers.specs.declared.Refusal.{Refusal}
+use Rattle.refusals.specs.declared.Refusal.{Refusal}
 use Rattle.layout.specs.Checks.{checkOf, content, storedCheck}
 use Rattle.refusals.proofs.SaidLaws.{same-refusal}
 use Rattle.records.specs.Names.{VariableKept}

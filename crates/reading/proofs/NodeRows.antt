@@ -13,7 +13,7 @@ use Rattle.lists.specs.First.{_otherwise_, first}
 use Rattle.lists.proofs.FirstLaws.{first-pass, first-stop}
 use Rattle.lists.proofs.TestLaws.{both, and}
 use Rattle.lists.proofs.Decided.{denied}
-use Rattle.numbers.specs.declared.Refusal.{Refusal}
+use Rattle.refusals.specs.declared.Refusal.{Refusal}
 use Rattle.numbers.specs.Bytes.{byteAt}
 use Rattle.numbers.proofs.NarrowLaws.{narrow-of, narrow-false}
 use Rattle.meaning.specs.declared.Sort.{Sort}

@@ -8,7 +8,7 @@ use native.Mathlib.Omega.{arith}
 use borrow.Author.Tests.{lt-ltb, le-ltb}
 use lib.ListN.{length}
 use Rattle.lists.proofs.FirstLaws.{otherwise-none, otherwise-some}
-use Rattle.numbers.specs.declared.Refusal.{Refusal}
+use Rattle.refusals.specs.declared.Refusal.{Refusal}
 use Rattle.layout.specs.Limits.{blockBytes, nameStart, mostVariables, variablePlace}
 use Rattle.layout.specs.Parts.{variableCount}
 use Rattle.refusals.specs.declared.Reading.{Reading}

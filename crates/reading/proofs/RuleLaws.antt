@@ -11,7 +11,7 @@ use borrow.Author.Tests.{eqb-true, eq-eqb}
 use lib.ListN.{length, take, drop}
 use Rattle.lists.specs.Places.{from}
 use Rattle.lists.proofs.FirstLaws.{neither, otherwise-none, first-none, none-first}
-use Rattle.numbers.specs.declared.Refusal.{Refusal}
+use Rattle.refusals.specs.declared.Refusal.{Refusal}
 use Rattle.numbers.specs.Bytes.{Bytes}
 use Rattle.meaning.specs.declared.Sort.the-variants.{Truth}
 use Rattle.meaning.specs.Rule.{Rule, domainOf}

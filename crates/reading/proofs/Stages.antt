@@ -7,7 +7,7 @@ use mathlib.Core.Option.{Option, none, some}
 use native.Mathlib.Decide.{decLt}
 use native.Mathlib.Omega.{arith}
 use Rattle.lists.specs.First.{_otherwise_}
-use Rattle.numbers.specs.declared.Refusal.{Refusal}
+use Rattle.refusals.specs.declared.Refusal.{Refusal}
 use Rattle.layout.specs.Parts.{nodeCount}
 use Rattle.refusals.specs.Said.{unless}
 use Rattle.reading.specs.Rows.{OfSheet, row-1, row-2, row-3, row-4, row-5, OfNode, row-6, row-7, row-8, AfterNodes, goal-6, goal-7, Applies, whole, node, after}

@@ -6,7 +6,7 @@ use mathlib.Core.Option.{Option, none, some}
 use denote.Ref.{RefT}
 use lib.Dec.{ltb}
 use Rattle.lists.specs.Part.{PartAt}
-use Rattle.numbers.specs.declared.Refusal.{Refusal}
+use Rattle.refusals.specs.declared.Refusal.{Refusal}
 use Rattle.layout.specs.Limits.{nameStart, variablePlace}
 use Rattle.layout.specs.Parts.{variableCount, nameSize}
 use Rattle.reading.specs.Cascade.{refusalOf}

@@ -4,7 +4,7 @@ use mathlib.Core.Path.{_≡_}
 use mathlib.Core.List.{List}
 use lib.ListN.{length}
 use Rattle.numbers.specs.declared.Range.{Range}
-use Rattle.numbers.specs.declared.Refusal.{Refusal}
+use Rattle.refusals.specs.declared.Refusal.{Refusal}
 use Rattle.numbers.specs.Bytes.{byteAt}
 use Rattle.numbers.specs.Ranges.{NarrowEnds}
 use Rattle.meaning.specs.declared.Sort.the-variants.{Truth}

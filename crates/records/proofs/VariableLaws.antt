@@ -8,7 +8,7 @@ use mathlib.Core.Option.{none, some}
 use native.Mathlib.Nat.{zero-add}
 use native.Mathlib.Omega.{arith}
 use Rattle.lists.proofs.FirstLaws.{first-none, none-first, first-some, some-first}
-use Rattle.numbers.specs.declared.Refusal.{Refusal}
+use Rattle.refusals.specs.declared.Refusal.{Refusal}
 use Rattle.layout.specs.Limits.{variablePlace}
 use Rattle.layout.specs.Parts.{variableCount, nameIn}
 use Rattle.refusals.proofs.SaidLaws.{unless-none, unless-true, unless-false, unless-some}

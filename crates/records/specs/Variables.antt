@@ -7,7 +7,7 @@ use lib.Dec.{eqb, leb}
 use lib.Signed.{leZ}
 use Rattle.lists.specs.Places.{allBelow}
 use Rattle.lists.specs.First.{first}
-use Rattle.numbers.specs.declared.Refusal.{Refusal}
+use Rattle.refusals.specs.declared.Refusal.{Refusal}
 use Rattle.numbers.specs.Bytes.{i16At}
 use Rattle.layout.specs.Limits.{mostNameBytes, nameStart, nameField, variablePlace}
 use Rattle.layout.specs.Parts.{variableCount, nameSize, zeroByte, nameIn}

@@ -22,9 +22,9 @@ use layout::NODES_IN_BLOCK;
 use layout::VARIABLE_BYTES;
 use numbers::NodeNumber;
 use numbers::Range;
-use numbers::Refusal;
 use numbers::VariableNumber;
 use refusals::Reading;
+use refusals::Refusal;
 
 fn between(low: u8, b: u8, high: u8) -> bool
     ensures { λ r. ⌜ r ≡ leb low b && leb b high ⌝ }

@@ -7,7 +7,7 @@ use borrow.Author.Tests.{leb-true, leb-false, le-leb, lt-leb}
 use lib.Dec.{leb}
 use Rattle.lists.specs.First.{_otherwise_}
 use Rattle.lists.proofs.FirstLaws.{neither, otherwise-none}
-use Rattle.numbers.specs.declared.Refusal.{Refusal}
+use Rattle.refusals.specs.declared.Refusal.{Refusal}
 use Rattle.refusals.specs.Said.{unless}
 use Rattle.refusals.proofs.SaidLaws.{unless-none, unless-true, unless-false, unless-some}
 

@@ -7,7 +7,7 @@ use mathlib.Core.Option.{none, some}
 use native.Mathlib.Omega.{arith}
 use lib.ListN.{length}
 use Rattle.lists.proofs.FirstLaws.{otherwise-some}
-use Rattle.numbers.specs.declared.Refusal.{Refusal}
+use Rattle.refusals.specs.declared.Refusal.{Refusal}
 use Rattle.layout.specs.Parts.{ruleIn}
 use Rattle.refusals.proofs.SaidLaws.{same-refusal}
 use Rattle.refusals.proofs.AfterLaws.{passes, passed, stops, stopped}

@@ -6,7 +6,7 @@ use mathlib.Core.Option.{Option, none, some}
 use lib.Dec.{leb}
 use lib.ListN.{length}
 use Rattle.lists.specs.First.{_otherwise_}
-use Rattle.numbers.specs.declared.Refusal.{Refusal}
+use Rattle.refusals.specs.declared.Refusal.{Refusal}
 use Rattle.layout.specs.Parts.{ruleIn}
 use Rattle.refusals.specs.Said.{unless}
 use Rattle.reading.specs.Cascade.{refusalOf}

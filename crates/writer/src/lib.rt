@@ -10,8 +10,8 @@ ghost use Rattle.room.specs.Room.{Wrote};
 ghost use Rattle.writer.specs.Ending.{goalLines};
 ghost use Rattle.writer.specs.Writes.{Writes};
 use numbers::NodeNumber;
-use numbers::Refusal;
 use refusals::Reading;
+use refusals::Refusal;
 
 // A room of so many bytes is enough for the script of every accepted sheet.
 pub const ENOUGH_ROOM: usize = 4096;
