@@ -1,4 +1,5 @@
 pub mod Proved
+pub mod Rooms
 pub mod Once
 pub mod StarredCases
 pub mod Applied

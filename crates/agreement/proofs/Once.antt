@@ -14,7 +14,8 @@ use Rattle.blocks.proofs.Unique.{block-once}
 use Rattle.reading.proofs.Unique.{read-once, name-once}
 use Rattle.cases.proofs.Unique.{check-once, tally-once}
 use Rattle.writer.proofs.Unique.{write-once}
-use Rattle.agreement.specs.OneAnswer.{OneAnswer}
+use Rattle.agreement.specs.Statements.{OneAnswer}
+use Rattle.agreement.specs.Between.{OneBetween}
 
 -- a row is its first numbers and the others
 same-row : (v : ℕ) {x y : List ℤ} → take v x ≡ take v y → drop v x ≡ drop v y → x ≡ y
@@ -46,6 +47,10 @@ one-answer = record {
   write-script = λ s before x y r t. write-once;
   ragwashin-check = λ s before x y r t h g. (h .code ∙ sym (g .code), h .room ∙ sym (g .room));
   ragwashin-script = λ s before x y r t h g. (h .code ∙ sym (g .code), h .room ∙ sym (g .room));
+}
+
+pub one-between : OneBetween
+one-between = record {
   step = λ said r t. said-once r t;
   part = λ whole p q a n. part-once;
   lowest = λ domains v old x y. lowest-once;

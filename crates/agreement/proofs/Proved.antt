@@ -15,10 +15,10 @@ use Rattle.meaning.specs.declared.Sort.the-variants.{Truth, Integer}
 use Rattle.meaning.specs.Tree.{Tree}
 use Rattle.meaning.specs.Rule.{Variable, domainOf, Case, valueIn}
 use Rattle.meaning.specs.Cases.{Failing, failures}
-use Rattle.meaning.proofs.Listed.{in-every}
+use Rattle.meaning.proofs.Listed.{listed, in-order, in-every}
 use Rattle.meaning.proofs.Counts.{case-count, held-failed}
 use Rattle.meaning.proofs.Repeats.{map-no-repeats}
-use Rattle.meaning.proofs.Failures.{failures-are, failures-once, failed-is, first-fails, first-some}
+use Rattle.meaning.proofs.Failures.{failures-are, failures-once, failed-is}
 use Rattle.kinds.proofs.ClaimLaws.{follows}
 use Rattle.layout.specs.Parts.{variableCount, ruleIn, LaidOut}
 use Rattle.layout.specs.Sheet.{sheetOf}
@@ -83,6 +83,9 @@ pub one-byte-changed : promise.OneByteChanged
 one-byte-changed s h = changed-byte s (h .bytes) (accepts h)
 
 -- ---- demand 2
+pub cases-listed : promise.CasesListed
+cases-listed r = (listed r, in-order r)
+
 pub all-counted : promise.AllCounted
 all-counted r = (held-failed r, case-count r)
 
@@ -95,6 +98,9 @@ module _ {s : List ℕ} (h : Sheet s) (few : caseCount (ruleIn s) ≤ mostCases)
 
 pub holds-where : promise.HoldsExactly
 holds-where s h few before after r l c = holds-exactly s c (checked h few l)
+
+pub first-named : promise.FirstNamed
+first-named s h few before after l c = room-fails s c (checked h few l) refl .0
 
 pub room-enough : promise.RoomEnough
 room-enough s h = script-short s (accepts h)
@@ -150,7 +156,7 @@ check-agrees s h few before after r l c =
     named : checkRefusal s (length before) ≡ none → r ≡ Fails → Satisfies (script (ruleIn s)) (settingOf 16 (take (variableCount s) after))
     named e p =
         let first = take (variableCount s) after in
-        matched s h .satisfies first (first-fails (ruleIn s) (first-some (ruleIn s) first .1 (room-fails s c e p .0)))
+        matched s h .satisfies first (room-fails s c e p .0 .failing)
 
 -- each failing case's setting, in the order of the cases
 all-listed : (s : List ℕ) → Sheet s → Listed (script (ruleIn s)) (map (settingOf 16) (failures (ruleIn s)))

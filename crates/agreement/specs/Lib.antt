@@ -1,3 +1,3 @@
 pub mod Statements
-pub mod OneAnswer
+pub mod Between
 pub mod Starred

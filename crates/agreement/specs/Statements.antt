@@ -6,23 +6,31 @@ use mathlib.Core.Logic.{_↔_}
 use mathlib.Core.List.{List, map, List·Memᴰ}
 use mathlib.Core.Option.{none, some}
 use lib.IntN.{ℤ}
-use lib.ListN.{length, set, take}
+use lib.ListN.{length, set, take, drop}
+use denote.Ref.{RefT}
 use Rattle.lists.specs.Places.{from, NoRepeats}
+use Rattle.lists.specs.Part.{SamePart}
 use Rattle.refusals.specs.declared.Refusal.{Refusal}
 use Rattle.numbers.specs.Two.{enc}
 use Rattle.numbers.specs.Bytes.{byteAt, Bytes}
-use Rattle.meaning.specs.Rule.{Rule}
+use Rattle.meaning.specs.Rule.{Rule, Case}
 use Rattle.meaning.specs.Cases.{casesOf, Failing, AllHold, held, failed}
+use Rattle.meaning.specs.CaseOrder.{Earlier, Rising, FirstFailing}
 use Rattle.layout.specs.Limits.{blockBytes}
 use Rattle.layout.specs.WellFormed.{WellFormed}
 use Rattle.layout.specs.Parts.{variableCount, ruleIn, Nameless}
 use Rattle.layout.specs.Sheet.{sheetOf}
+use Rattle.refusals.specs.declared.Reading.{Reading}
+use Rattle.refusals.specs.Said.{saidOf}
+use Rattle.blocks.specs.Block.{BlockPart}
+use Rattle.reading.specs.Name.{NamePart}
+use Rattle.capi.specs.Codes.{CheckCodes, ScriptCodes}
 use Rattle.reading.specs.Rows.{Answer, Accepted}
 use Rattle.reading.specs.Cascade.{refusalOf}
 use Rattle.reading.specs.Lawful.{Allowed}
 use Rattle.odometer.specs.Limit.{mostCases, caseCount}
 use Rattle.cases.specs.declared.Checked.{Checked}
-use Rattle.cases.specs.declared.Checked.the-variants.{Holds, Fails}
+use Rattle.cases.specs.declared.Checked.the-variants.{Holds, Fails, Refused as Checked·Refused}
 use Rattle.cases.specs.declared.Tallied.{Tallied}
 use Rattle.cases.specs.Checks.{tryRefusal, checkRefusal, Checks}
 use Rattle.cases.specs.Tallies.{Tallies}
@@ -38,7 +46,9 @@ use Rattle.wording.specs.Script.{script}
 use Rattle.wording.proofs.Forms.{Form, scriptBy}
 use Rattle.wording.proofs.Bits.{bitsLiteral}
 use Rattle.wording.proofs.MeansClaims.{WidthHolds}
-use Rattle.writer.specs.Writes.{scriptRefusal, enoughRoom}
+use Rattle.writer.specs.declared.Written.{Written}
+use Rattle.writer.specs.declared.Written.the-variants.{Script, Refused}
+use Rattle.writer.specs.Writes.{scriptRefusal, enoughRoom, Writes}
 use Rattle.writer.specs.Rows.{ScriptRow}
 
 -- an accepted sheet: bytes to which no row of the table of refusals applies
@@ -71,7 +81,11 @@ OneByteChanged =
     (s : List ℕ) → Sheet s → (j b : ℕ) → j < length s → b < 256 → (b ≡ byteAt s j → ⊥)
     → refusalOf (set s j b) ≡ some (record { number = 2; place = j / blockBytes })
 
--- ---- demand 2: held and failed are all cases, and these the product of the domain sizes
+-- ---- demand 2: the list of cases has exactly the cases, in their order, so each once
+abbrev pub CasesListed : Type 0
+CasesListed = (r : Rule) → ((c : List ℤ) → List·Memᴰ c (casesOf r) ↔ Case r c) × Rising Earlier (casesOf r)
+
+-- held and failed are all cases, and these the product of the domain sizes
 abbrev pub AllCounted : Type 0
 AllCounted = (r : Rule) → (held r + failed r ≡ length (casesOf r)) × (length (casesOf r) ≡ caseCount r)
 
@@ -80,6 +94,31 @@ abbrev pub HoldsExactly : Type 0
 HoldsExactly =
     (s : List ℕ) → Sheet s → caseCount (ruleIn s) ≤ mostCases → (before after : List ℤ) (r : Checked) → variableCount s ≤ length before → Checks s before r after
     → (r ≡ Holds) ↔ AllHold (ruleIn s)
+
+-- and where it says that the rule fails, the first V numbers of the room are the first failing case
+abbrev pub FirstNamed : Type 0
+FirstNamed =
+    (s : List ℕ) → Sheet s → caseCount (ruleIn s) ≤ mostCases → (before after : List ℤ) → variableCount s ≤ length before → Checks s before Fails after
+    → FirstFailing (ruleIn s) (take (variableCount s) after)
+
+-- any bytes, any room: only a check that fails changes the room, and then nothing past V numbers
+pub record CheckRoom (s : List ℕ) (before : List ℤ) (r : Checked) (after : List ℤ) : Type 0 where
+  pub refused : (q : Refusal) → r ≡ Checked·Refused q → after ≡ before
+  pub holds : r ≡ Holds → after ≡ before
+  pub past : drop (variableCount s) after ≡ drop (variableCount s) before
+  pub size : length after ≡ length before
+
+-- only a script that is written changes the room: n bytes, which are the script, and nothing past them
+pub record ScriptRoom (s before : List ℕ) (r : Written) (after : List ℕ) : Type 0 where
+  pub refused : (q : Refusal) → r ≡ Refused q → after ≡ before
+  pub written : (n : ℕ) → r ≡ Script n → (take n after ≡ script (ruleIn s)) × (drop n after ≡ drop n before)
+  pub size : length after ≡ length before
+
+abbrev pub RoomKept : Type 0
+RoomKept =
+    (s : List ℕ)
+    → ((before after : List ℤ) (r : Checked) → Checks s before r after → CheckRoom s before r after)
+    × ((before after : List ℕ) (r : Written) → Writes s before r after → ScriptRoom s before r after)
 
 -- a room of 4,096 bytes is enough for every script
 abbrev pub RoomEnough : Type 0
@@ -137,3 +176,15 @@ abbrev pub SameScript : Type 0
 SameScript =
     (s t : List ℕ) → Sheet s → Sheet t → script (ruleIn s) ≡ script (ruleIn t)
     → (length s ≡ length t) × ((j : ℕ) → Nameless (variableCount s) j → byteAt s j ≡ byteAt t j)
+
+-- ---- each call: no second answer and no second room fits the predicate that its `ensures` names; of a returned part, bytes and place in memory are meant
+pub record OneAnswer : Type 0 where
+  pub read : (s : List ℕ) (r t : Reading) → saidOf r ≡ refusalOf s → saidOf t ≡ refusalOf s → r ≡ t
+  pub name : (sheet : RefT (List ℕ)) (variable : ℕ) (p q : RefT (List ℕ)) → NamePart sheet variable p → NamePart sheet variable q → SamePart p q
+  pub block : (sheet : RefT (List ℕ)) (k : ℕ) (p q : RefT (List ℕ)) → BlockPart sheet k p → BlockPart sheet k q → SamePart p q
+  pub check : (s : List ℕ) (before x y : List ℤ) (r t : Checked) → Checks s before r x → Checks s before t y → (r ≡ t) × (x ≡ y)
+  pub tally : (s : List ℕ) (r t : Tallied) → Tallies s r → Tallies s t → r ≡ t
+  pub write-script : (s before x y : List ℕ) (r t : Written) → Writes s before r x → Writes s before t y → (r ≡ t) × (x ≡ y)
+  -- of the C interface; its other answers are equations
+  pub ragwashin-check : (s : List ℕ) (before x y : List ℤ) (r t : ℕ) → CheckCodes s before r x → CheckCodes s before t y → (r ≡ t) × (x ≡ y)
+  pub ragwashin-script : (s before x y : List ℕ) (r t : ℕ) → ScriptCodes s before r x → ScriptCodes s before t y → (r ≡ t) × (x ≡ y)

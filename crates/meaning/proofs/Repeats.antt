@@ -8,6 +8,7 @@ use native.Mathlib.Omega.{arith}
 use lib.ListN.{length}
 use Rattle.lists.specs.Places.{NoRepeats}
 use Rattle.meaning.specs.Cases.{keep, those}
+use Rattle.meaning.specs.CaseOrder.{Rising}
 
 module _ {A : Type 0} where
   -- a list has a member exactly when it is not empty
@@ -95,18 +96,13 @@ module _ {A : Type 0} where
 
 -- ---- lists in rising order
 module _ {A : Type 0} (Before : A → A → Type 0) where
-  -- each thing of the list comes before all that stand after it
-  abbrev pub Rising : List A → Type 0
-  Rising [] = Unit {0}
-  Rising (x ∷ l) = ((y : A) → List·Memᴰ y l → Before x y) × Rising l
-
-  pub append-rising : (l m : List A) → Rising l → Rising m → ((x y : A) → List·Memᴰ x l → List·Memᴰ y m → Before x y) → Rising (l ++ m)
+  pub append-rising : (l m : List A) → Rising Before l → Rising Before m → ((x y : A) → List·Memᴰ x l → List·Memᴰ y m → Before x y) → Rising Before (l ++ m)
   append-rising [] m p q h = q
   append-rising (x ∷ l) m p q h = (
     λ y k. ⊎-elim (p .0 y) (h x y (List·Memᴰ·head refl)) (List·Memᴰ·append-cases l k),
     append-rising l m (p .1) q (λ y z u v. h y z (List·Memᴰ·tail u) v),
   )
 
-  pub rising-once : ((x : A) → Before x x → ⊥) → (l : List A) → Rising l → NoRepeats l
+  pub rising-once : ((x : A) → Before x x → ⊥) → (l : List A) → Rising Before l → NoRepeats l
   rising-once h [] p = tt
   rising-once h (x ∷ l) p = (λ m. h x (p .0 x m), rising-once h l (p .1))

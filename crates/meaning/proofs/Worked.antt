@@ -11,7 +11,8 @@ use Rattle.meaning.specs.declared.Sort.the-variants.{Truth}
 use Rattle.meaning.specs.Tree.{Tree, tru, fls, equal, var}
 use Rattle.meaning.specs.Value.{value}
 use Rattle.meaning.specs.Rule.{Variable, Rule, domainOf}
-use Rattle.meaning.specs.Cases.{sizeOf, members, cases, casesOf, holds, AllHold, failures, firstFailure, held, failed, FirstFailing}
+use Rattle.meaning.specs.Cases.{sizeOf, members, cases, casesOf, holds, AllHold, failures, firstFailure, held, failed}
+use Rattle.meaning.specs.CaseOrder.{FirstFailing}
 use Rattle.meaning.specs.Odometer.{next}
 use Rattle.meaning.proofs.Failures.{first-none, first-some}
 use Rattle.meaning.proofs.SomeCase.{HasValues, some-case}
@@ -38,7 +39,7 @@ two-and-two : (held sheetA ≡ 2) × (failed sheetA ≡ 2)
 unfolding sheetA bit casesOf sizeOf value holds held failed
 two-and-two = (refl, refl)
 
-found : FirstFailing (holds sheetA) (casesOf sheetA) (pos 0 ∷ pos 1 ∷ [])
+found : FirstFailing sheetA (pos 0 ∷ pos 1 ∷ [])
 found = first-some sheetA (pos 0 ∷ pos 1 ∷ []) .0 first-fails
 
 has-cases : HasValues sheetA

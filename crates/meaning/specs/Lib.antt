@@ -2,4 +2,5 @@ pub mod Tree
 pub mod Value
 pub mod Rule
 pub mod Cases
+pub mod CaseOrder
 pub mod Odometer

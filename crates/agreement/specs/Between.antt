@@ -1,0 +1,24 @@
+-- Between crates: of each public function whose `ensures` is no mere equation, no second answer and no second room fits the predicate that it names.
+-- The calls themselves have this in `Statements`: `OneAnswer`.
+use Prim.Native.Nat.{ℕ}
+use mathlib.Core.Path.{_≡_}
+use mathlib.Core.Bool.{Bool}
+use mathlib.Core.List.{List}
+use mathlib.Core.Option.{Option}
+use denote.Ref.{RefT}
+use lib.IntN.{ℤ}
+use Rattle.lists.specs.Part.{PartAt, SamePart}
+use Rattle.numbers.specs.declared.Range.{Range}
+use Rattle.meaning.specs.Odometer.{Lowered, Advanced}
+use Rattle.refusals.specs.declared.Refusal.{Refusal}
+use Rattle.refusals.specs.declared.Reading.{Reading}
+use Rattle.refusals.specs.Said.{saidOf}
+use Rattle.room.specs.Room.{Wrote}
+
+-- the steps of the reading, a name's part, the odometer, and what writes into room
+pub record OneBetween : Type 0 where
+  pub step : (said : Option Refusal) (r t : Reading) → saidOf r ≡ said → saidOf t ≡ said → r ≡ t
+  pub part : (whole p q : RefT (List ℕ)) (a n : ℕ) → PartAt whole p a n → PartAt whole q a n → SamePart p q
+  pub lowest : (domains : ℕ → Range) (v : ℕ) (old x y : List ℤ) → Lowered domains v old x → Lowered domains v old y → x ≡ y
+  pub advance : (domains : ℕ → Range) (v : ℕ) (old x y : List ℤ) (r t : Bool) → Advanced domains v old r x → Advanced domains v old t y → (r ≡ t) × (x ≡ y)
+  pub writes : (text before x y : List ℕ) (at m n : ℕ) → Wrote text before x at m → Wrote text before y at n → (m ≡ n) × (x ≡ y)
