@@ -39,7 +39,7 @@ pub fn node_at(node: usize) -> usize {
 
 /// Blocks of a sheet with this many nodes.
 pub fn blocks_for(nodes: usize) -> usize {
-    1 + nodes.div_ceil(NODES_IN_BLOCK)
+    1 + (nodes + NODES_IN_BLOCK - 1) / NODES_IN_BLOCK
 }
 
 /// The number of 16 bits that stands there.

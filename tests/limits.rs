@@ -15,7 +15,7 @@ pub const LONGEST_NAME: usize = 16;
 pub const MOST_NODES: usize = 248;
 pub const NODES_IN_BLOCK: usize = 31;
 /// The first block has no nodes.
-pub const MOST_BLOCKS: usize = 1 + MOST_NODES.div_ceil(NODES_IN_BLOCK);
+pub const MOST_BLOCKS: usize = 1 + (MOST_NODES + NODES_IN_BLOCK - 1) / NODES_IN_BLOCK;
 pub const MOST_BYTES: usize = MOST_BLOCKS * BLOCK;
 
 /// The ends of 16 bits.

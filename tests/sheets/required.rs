@@ -97,11 +97,8 @@ fn whole_sheet(all: &mut All) {
 
 fn variables(all: &mut All) {
     add(all, "5: ", "min = max + 1|min over max|min = 0 and max = -1|min = 32,767 and max = -32,768");
-    add(
-        all,
-        "5: ",
-        "length 0|length 0 and no name|length 17|length 17 and a letter after the name|length over 16",
-    );
+    add(all, "5: ", "length 0|length 0 and no name|length one over the most|length any over the most");
+    add(all, "5: ", "length one over the most and a letter after the name");
     add(all, "5: ", "byte 5 of the record|byte 22 of the record|byte 23 of the record");
     add(all, "5: ", "first byte past the length|last byte past the length|any byte past the length");
     add(all, "5: ", "equal names|three equal names|a faulty record and a later equal name");

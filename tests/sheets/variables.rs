@@ -71,20 +71,22 @@ fn lengths(random: &mut Random, out: &mut Output, variable: usize) {
     out.put(random, "5: length 0", &sheet, Refused(5, variable));
     let sheet = spoilt(random, variable, |_, record| set_name(record, b""));
     out.put(random, "5: length 0 and no name", &sheet, Refused(5, variable));
+    let over = LONGEST_NAME + 1;
     let sheet = spoilt(random, variable, |_, record| {
-        set_name(record, b"abcdefghijklmnop");
-        record[LENGTH] = 17;
+        set_name(record, &[b'a'; LONGEST_NAME]);
+        record[LENGTH] = over as u8;
     });
-    out.put(random, "5: length 17", &sheet, Refused(5, variable));
+    out.put(random, "5: length one over the most", &sheet, Refused(5, variable));
     let sheet = spoilt(random, variable, |_, record| {
-        // Whoever takes 17 bytes for the name finds a letter in each.
-        set_name(record, b"abcdefghijklmnop");
-        record[LENGTH] = 17;
-        record[NAME + 16] = b'q';
+        // Whoever takes that many bytes for the name finds a letter in each.
+        set_name(record, &[b'a'; LONGEST_NAME]);
+        record[LENGTH] = over as u8;
+        record[NAME + LONGEST_NAME] = b'q';
     });
-    out.put(random, "5: length 17 and a letter after the name", &sheet, Refused(5, variable));
-    let sheet = spoilt(random, variable, |random, record| record[LENGTH] = 17 + random.below(239) as u8);
-    out.put(random, "5: length over 16", &sheet, Refused(5, variable));
+    out.put(random, "5: length one over the most and a letter after the name", &sheet, Refused(5, variable));
+    let any = over + random.below(256 - over);
+    let sheet = spoilt(random, variable, |_, record| record[LENGTH] = any as u8);
+    out.put(random, "5: length any over the most", &sheet, Refused(5, variable));
 }
 
 fn zero_bytes(random: &mut Random, out: &mut Output, variable: usize) {
@@ -92,9 +94,9 @@ fn zero_bytes(random: &mut Random, out: &mut Output, variable: usize) {
         let sheet = spoilt(random, variable, |random, record| record[byte] = random.nonzero());
         out.put(random, &format!("5: byte {} of the record", byte), &sheet, Refused(5, variable));
     }
-    let length = 1 + random.below(15);
-    let any = length + random.below(16 - length);
-    for (label, place) in [("first", length), ("last", 15), ("any", any)] {
+    let length = 1 + random.below(LONGEST_NAME - 1);
+    let any = length + random.below(LONGEST_NAME - length);
+    for (label, place) in [("first", length), ("last", LONGEST_NAME - 1), ("any", any)] {
         let sheet = spoilt(random, variable, |random, record| {
             set_name(record, &b"Qabcdefghijklmno"[..length]);
             // A letter half of the time: right in a name, but not past its length.
@@ -145,9 +147,9 @@ fn is_later(byte: u8) -> bool {
 /// Each byte as the first and as a later character of a name.
 fn characters(random: &mut Random, out: &mut Output) {
     for byte in 0..=255u8 {
-        let length = 1 + random.below(16);
+        let length = 1 + random.below(LONGEST_NAME);
         character(random, out, "first", length, 0, byte, is_letter(byte));
-        let length = 2 + random.below(15);
+        let length = 2 + random.below(LONGEST_NAME - 1);
         let place = 1 + random.below(length - 1);
         character(random, out, "later", length, place, byte, is_later(byte));
     }

@@ -190,7 +190,7 @@ fn counts_spoilt(random: &mut Random, out: &mut Output) {
         ("0, some nodes", 0),
         ("one over the most", over),
         // Whoever takes its first byte alone finds 0.
-        ("over the most, first byte 0", over.next_multiple_of(256)),
+        ("over the most, first byte 0", 256 * (over / 256 + 1)),
         ("65,535", 65_535),
         ("any over the most", over + random.below(65_536 - over)),
     ] {
