@@ -3,8 +3,7 @@
 
 use std::{env, fs, process};
 
-// As include/ragwashin.h has them. They take any bytes, and read and write nothing but what is lent: slices do as
-// the header asks.
+// As include/ragwashin.h has them. They take any bytes, and slices meet all that they ask of a caller.
 extern "C" {
     fn ragwashin_read(sheet: *const u8, sheet_len: usize) -> u64;
     fn ragwashin_name(sheet: *const u8, sheet_len: usize, variable: u16) -> u64;
@@ -29,50 +28,35 @@ fn read(sheet: &[u8]) -> Result<String, String> {
 /// A variable's name is a part of the sheet.
 fn name(sheet: &[u8], variable: u16) -> Option<&str> {
     let part = unsafe { ragwashin_name(sheet.as_ptr(), sheet.len(), variable) } as usize;
-    std::str::from_utf8(&sheet[part / 65_536..][..part % 65_536])
-        .ok()
-        .filter(|name| !name.is_empty())
+    std::str::from_utf8(&sheet[part / 65_536..][..part % 65_536]).ok().filter(|name| !name.is_empty())
 }
 
 fn check(sheet: &[u8]) -> Result<String, String> {
     let mut room = [0i16; 16];
-    let code =
-        unsafe { ragwashin_check(sheet.as_ptr(), sheet.len(), room.as_mut_ptr(), room.len()) };
+    let code = unsafe { ragwashin_check(sheet.as_ptr(), sheet.len(), room.as_mut_ptr(), room.len()) };
     if answer(code)? == 0 {
         return Ok("holds".to_string());
     }
-    let values = (0u16..)
-        .zip(room)
-        .map_while(|(variable, value)| Some((name(sheet, variable)?, value)));
-    Ok(values.fold("fails".to_string(), |said, (name, value)| {
-        format!("{} {}={}", said, name, value)
-    }))
+    let values = (0u16..).zip(room).map_while(|(variable, value)| Some((name(sheet, variable)?, value)));
+    Ok(values.fold("fails".to_string(), |said, (name, value)| format!("{} {}={}", said, name, value)))
 }
 
 fn tally(sheet: &[u8]) -> Result<String, String> {
     let counts = answer(unsafe { ragwashin_tally(sheet.as_ptr(), sheet.len()) })?;
-    Ok(format!(
-        "held {} failed {}",
-        counts >> 24,
-        counts % (1 << 24)
-    ))
+    Ok(format!("held {} failed {}", counts >> 24, counts % (1 << 24)))
 }
 
 fn script(sheet: &[u8]) -> Result<String, String> {
     let mut room = [0u8; 4_096];
-    let code =
-        unsafe { ragwashin_script(sheet.as_ptr(), sheet.len(), room.as_mut_ptr(), room.len()) };
+    let code = unsafe { ragwashin_script(sheet.as_ptr(), sheet.len(), room.as_mut_ptr(), room.len()) };
     Ok(format!("{} bytes", answer(code)?))
 }
 
 fn main() {
-    let sheet = env::args()
-        .nth(1)
-        .and_then(|file| fs::read(file).ok())
-        .unwrap_or_else(|| {
-            eprintln!("usage: check SHEET");
-            process::exit(2)
-        });
+    let sheet = env::args().nth(1).and_then(|file| fs::read(file).ok()).unwrap_or_else(|| {
+        eprintln!("usage: check SHEET");
+        process::exit(2)
+    });
     for (call, said) in [
         ("read", read(&sheet)),
         ("check", check(&sheet)),
