@@ -7,7 +7,6 @@ use Rattle.meaning.specs.declared.Sort.{Sort}
 use Rattle.meaning.specs.Tree.{Tree, tru, fls, neg, conj, disj, implies, iff, equal, less, atMost, const, var, minus, sum, difference, product, ite}
 use Rattle.meaning.specs.Value.{implied, equivalent, equals, chosen, value}
 use Rattle.meaning.proofs.Equals.{equals-same}
-use Rattle.kinds.specs.Rows.{by-rows}
 use Rattle.layout.specs.Fold.{ofTree}
 use Rattle.evaluator.specs.Numbers.{bit, numberOf, isTrue, numberStep}
 
@@ -52,7 +51,7 @@ equals-true {x} {y} e = rw (← e) (equals-same x)
 -- ---- a tree's number, where variable i has the value ρ i
 module _ (ρ : ℕ → ℤ) where
   pub numbers-are : {s : Sort} (t : Tree s) → ofTree (numberStep ρ) t ≡ numberOf s (value ρ t)
-  unfolding ofTree by-rows numberStep value
+  unfolding ofTree numberStep value
   numbers-are tru = refl
   numbers-are fls = refl
   numbers-are (neg a) = rw (numbers-are a) (not-number (value ρ a))

@@ -19,10 +19,11 @@ use Rattle.kinds.specs.declared.Kind.the-variants.{Unknown, True, False, Not, A
 use Rattle.kinds.specs.declared.Shape.{Shape}
 use Rattle.kinds.specs.declared.Shape.the-variants.{Wrong, Bare, Valued, Named, One, Two, Three}
 use Rattle.kinds.specs.Kinds.{row, kinds}
-use Rattle.kinds.specs.Rows.{Args, make, Known, Each, by-rows}
+use Rattle.kinds.specs.Rows.{Args, make, Known, SomeTree}
+use Rattle.kinds.proofs.RowLaws.{Each, by-rows}
 use Rattle.layout.specs.WellFormed.{Fine, WellFormed}
-use Rattle.layout.specs.Goal.{SomeTree, ofSort}
-use Rattle.layout.proofs.Made.{FineMade, foundMade, fine-make, found-make}
+use Rattle.layout.specs.Goal.{ofSort}
+use Rattle.layout.proofs.Made.{FineMade, foundMade, fine-parts, found-make}
 use Rattle.layout.proofs.Agree.{Alike}
 use Rattle.smtlib.specs.Tokens.{Atom, symbol, reserved, numeral, hexadecimal, binary, keyword, same}
 use Rattle.smtlib.specs.Sexps.{Sexp, atom, nil, cons, symbolIn, sexpsOf}
@@ -174,7 +175,7 @@ module _ (v : ℕ) (few : v ≤ 100) where
     where
       step : (k : Kind) → Known (row k .shape) → (x : Args (row k .shape)) → Each Spells (row k .shape) x → Spells (row k .gives) (make k x)
       step k q x e f =
-          let r = shape-read (row k .shape) (wordOf k) x q e (rw (fine-make k q x v) at f) in
+          let r = shape-read (row k .shape) (wordOf k) x q e (fine-parts v k x f) in
           ap treeIn (found-make k q x (sexpStep constant16 symbolText))
           ∙ r .1
           ∙ ap (λ (l : Kind). built l (r .0)) (kind-read k x)
