@@ -7,8 +7,8 @@ use Rattle.meaning.specs.Tree.{Tree}
 use Rattle.kinds.specs.declared.Kind.{Kind}
 use Rattle.kinds.specs.declared.Shape.{Shape}
 use Rattle.kinds.specs.declared.Shape.the-variants.{Wrong, Bare, Valued, Named, One, Two, Three}
-use Rattle.kinds.specs.Kinds.{row}
-use Rattle.kinds.specs.Rows.{Args, make, Known, SomeTree, operandsIn, Part, itself, operand, PartOf}
+use Rattle.kinds.specs.Kinds.{Args, row}
+use Rattle.kinds.specs.Rows.{make, Known, SomeTree, operandsIn, Part, itself, operand, PartOf}
 use Rattle.kinds.proofs.RowLaws.{Each, by-rows, eachOf, rows-make}
 
 -- the operands' claims together

@@ -3,7 +3,7 @@ use Prim.Native.Nat.{ℕ, _<_}
 use mathlib.Core.Path.{_≡_, refl, sym, ap, _∙_}
 use mathlib.Core.Bool.{Bool, true, false, cond, _&&_}
 use mathlib.Core.List.{List, [], _∷_}
-use borrow.Author.Tests.{eqb-true, ltb-true}
+use borrow.Author.Tests.{eqb-true, ne-eqb, ltb-true}
 use lib.Dec.{eqb, ltb}
 use Rattle.lists.proofs.TestLaws.{both}
 use Rattle.kinds.specs.declared.Kind.{Kind}
@@ -34,40 +34,73 @@ byte-names Kind.Difference = refl
 byte-names Kind.Product = refl
 byte-names Kind.If = refl
 
--- what is found among some kinds is one of them: its byte is the one looked for, and it passes every test that they pass
+-- a test that all rows of the table pass, computed
 module _ (test : Kind → Bool) where
   abbrev pub allOf : List Kind → Bool
   allOf [] = true
   allOf (k ∷ ks) = test k && allOf ks
 
-  record Among (b : ℕ) (k : Kind) : Type 0 where
-    byte : row k .byte ≡ b
-    passed : test k ≡ true
-
-  find-among : (ks : List Kind) → allOf ks ≡ true → (b : ℕ) → Known (row (find ks b) .shape) → Among b (find ks b)
+  find-passes : test Kind.Unknown ≡ true → (ks : List Kind) → allOf ks ≡ true → (b : ℕ) → test (find ks b) ≡ true
   unfolding find
-  find-among [] h b q = absurd q
-  find-among (k ∷ ks) h b q = go (find-among ks (both (test k) (allOf ks) h .1) b) (eqb b (row k .byte)) refl q
+  find-passes u [] h b = u
+  find-passes u (k ∷ ks) h b = go (eqb b (row k .byte)) (find-passes u ks (both (test k) (allOf ks) h .1) b)
     where
-      go : (Known (row (find ks b) .shape) → Among b (find ks b)) → (e : Bool) → eqb b (row k .byte) ≡ e → Known (row (cond e k (find ks b)) .shape) → Among b (cond e k (find ks b))
-      go rest true e w = record { byte = sym (eqb-true b (row k .byte) e); passed = both (test k) (allOf ks) h .0 }
-      go rest false e w = rest w
+      go : (e : Bool) → test (find ks b) ≡ true → test (cond e k (find ks b)) ≡ true
+      go true rest = both (test k) (allOf ks) h .0
+      go false rest = rest
 
-  -- what all rows of the table pass, every known kind passes
-  pub passes : allOf kinds ≡ true → (k : Kind) → Known (row k .shape) → test k ≡ true
+  -- holds of every kind
+  pub passes : allOf (Kind.Unknown ∷ kinds) ≡ true → (k : Kind) → test k ≡ true
   unfolding kindOf
-  passes h k q = rw (byte-names k) at (find-among kinds h (row k .byte) (rw (byte-names k) q) .passed)
+  passes h k =
+      let w = both (test Kind.Unknown) (allOf kinds) h in
+      rw (byte-names k) at (find-passes (w .0) kinds (w .1) (row k .byte))
+
+find-byte : (ks : List Kind) (b : ℕ) → Known (row (find ks b) .shape) → row (find ks b) .byte ≡ b
+unfolding find
+find-byte [] b q = absurd q
+find-byte (k ∷ ks) b q = go (find-byte ks b) (eqb b (row k .byte)) refl q
+  where
+    go : (Known (row (find ks b) .shape) → row (find ks b) .byte ≡ b) → (e : Bool) → eqb b (row k .byte) ≡ e → Known (row (cond e k (find ks b)) .shape) → row (cond e k (find ks b)) .byte ≡ b
+    go rest true e w = sym (eqb-true b (row k .byte) e)
+    go rest false e w = rest w
 
 -- a byte that names a kind is the kind's byte
-pub kind-byte : (k : ℕ) → Known (row (kindOf k) .shape) → row (kindOf k) .byte ≡ k
+pub kind-byte : (b : ℕ) → Known (row (kindOf b) .shape) → row (kindOf b) .byte ≡ b
 unfolding kindOf
-kind-byte k q = find-among (λ j. true) kinds refl k q .byte
+kind-byte b q = find-byte kinds b q
 
--- a kind's byte is one, and names the kind
-pub byte-kind : (k : Kind) → Known (row k .shape) → (row k .byte < 256) × (kindOf (row k .byte) ≡ k)
-byte-kind k q = (ltb-true _ _ (passes (λ j. ltb (row j .byte) 256) refl k q), byte-names k)
+-- a kind's byte is one
+pub byte-small : (k : Kind) → row k .byte < 256
+byte-small k = ltb-true _ _ (passes (λ j. ltb (row j .byte) 256) refl k)
 
--- only a constant has a value, and only a variable names one
+-- ---- what an arm of the code gives
+
+-- by the byte that it names
+pub named : {b n : ℕ} {k : Kind} → b ≡ n → k ≡ kindOf n → k ≡ kindOf b
+named e d = rw e d
+
+-- or by none of these kinds' bytes, after what is known before
+abbrev pub NoneOf : Type 0 → List Kind → ℕ → Type 0
+NoneOf before [] b = before
+NoneOf before (k ∷ ks) b = NoneOf (before × ¬ (b ≡ row k .byte)) ks b
+
+none-found : (before : Type 0) (ks : List Kind) (b : ℕ) → NoneOf before ks b → before × (find ks b ≡ Kind.Unknown)
+unfolding find
+none-found before [] b h = (h, refl)
+none-found before (k ∷ ks) b h =
+    let r = none-found (before × ¬ (b ≡ row k .byte)) ks b h in
+    (r .0 .0, rw (ne-eqb b (row k .byte) (r .0 .1)) (r .1))
+
+pub unnamed : {b : ℕ} → NoneOf (Unit {0}) kinds b → Kind.Unknown ≡ kindOf b
+unfolding kindOf
+unnamed {b} h = sym (none-found (Unit {0}) kinds b h .1)
+
+-- by the kind
+pub shaped : {k j : Kind} {h : Shape} → k ≡ j → h ≡ row j .shape → h ≡ row k .shape
+shaped e d = rw e d
+
+-- ---- only a constant has a value, and only a variable names one
 abbrev leafBytes : Shape → ℕ → Bool
 leafBytes Wrong b = true
 leafBytes Bare b = true
@@ -80,11 +113,11 @@ leafBytes (Three s t u) b = true
 same-byte : {k j : Kind} → eqb (row k .byte) (row j .byte) ≡ true → k ≡ j
 same-byte {k} {j} e = sym (byte-names k) ∙ ap kindOf (eqb-true _ _ e) ∙ byte-names j
 
-leaf-bytes : (k : Kind) → Known (row k .shape) → leafBytes (row k .shape) (row k .byte) ≡ true
+leaf-bytes : (k : Kind) → leafBytes (row k .shape) (row k .byte) ≡ true
 leaf-bytes = passes (λ j. leafBytes (row j .shape) (row j .byte)) refl
 
 pub valued-is : (k : Kind) → row k .shape ≡ Valued → k ≡ Kind.Constant
-valued-is k e = same-byte (rw e at (leaf-bytes k (rw e tt)))
+valued-is k e = same-byte (rw e at (leaf-bytes k))
 
 pub named-is : (k : Kind) → row k .shape ≡ Named → k ≡ Kind.Variable
-named-is k e = same-byte (rw e at (leaf-bytes k (rw e tt)))
+named-is k e = same-byte (rw e at (leaf-bytes k))

@@ -15,8 +15,8 @@ use Rattle.kinds.specs.declared.Kind.{Kind}
 use Rattle.kinds.specs.declared.Record.{Record}
 use Rattle.kinds.specs.declared.Shape.{Shape}
 use Rattle.kinds.specs.declared.Shape.the-variants.{Wrong, Bare, Valued, Named, One, Two, Three}
-use Rattle.kinds.specs.Kinds.{row}
-use Rattle.kinds.specs.Rows.{Args, make, Known, SomeTree}
+use Rattle.kinds.specs.Kinds.{Args, row}
+use Rattle.kinds.specs.Rows.{make, Known, SomeTree}
 use Rattle.kinds.proofs.RowLaws.{Each, by-rows}
 use Rattle.layout.specs.Starts.{sortAt, operandsOf, sortsOf, unusedOf, startBy, startAt, Ordered, Sorted, Listed, Placed, Typed}
 use Rattle.layout.specs.Goal.{recast, ofSort, argsOf, treeAt, goalOf, Sound}

@@ -10,8 +10,8 @@ use Rattle.meaning.specs.Tree.{Tree, fls}
 use Rattle.kinds.specs.declared.Record.{Record}
 use Rattle.kinds.specs.declared.Shape.{Shape}
 use Rattle.kinds.specs.declared.Shape.the-variants.{Wrong, Bare, Valued, Named, One, Two, Three}
-use Rattle.kinds.specs.Kinds.{row}
-use Rattle.kinds.specs.Rows.{Args, make, SomeTree}
+use Rattle.kinds.specs.Kinds.{Args, row}
+use Rattle.kinds.specs.Rows.{make, SomeTree}
 use Rattle.layout.specs.Starts.{shapeAt, sortAt, operandsOf}
 use Rattle.layout.specs.Goal.{recast, ofSort, argsOf, treeStep, treeAt}
 use Rattle.layout.proofs.StartLaws.{Before}

@@ -10,8 +10,8 @@ use Rattle.meaning.specs.Tree.{Tree, const, var}
 use Rattle.kinds.specs.declared.Kind.{Kind}
 use Rattle.kinds.specs.declared.Shape.{Shape}
 use Rattle.kinds.specs.declared.Shape.the-variants.{Wrong, Bare, Valued, Named, One, Two, Three}
-use Rattle.kinds.specs.Kinds.{row}
-use Rattle.kinds.specs.Rows.{Args, make, Known, SomeTree, operandsIn, itself, operand, PartOf}
+use Rattle.kinds.specs.Kinds.{Args, row}
+use Rattle.kinds.specs.Rows.{make, Known, SomeTree, operandsIn, itself, operand, PartOf}
 use Rattle.kinds.proofs.RowLaws.{by-rows}
 use Rattle.kinds.proofs.ClaimLaws.{Throughout, part-part, throughout-parts}
 use Rattle.kinds.proofs.KindLaws.{valued-is, named-is}

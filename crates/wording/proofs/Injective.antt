@@ -18,8 +18,8 @@ use Rattle.kinds.specs.declared.Kind.{Kind}
 use Rattle.kinds.specs.declared.Kind.the-variants.{Unknown, True, False, Not, And, Or, Implies, Iff, Equal, Less, AtMost, Constant, Variable as VariableKind, Minus, Sum, Difference, Product, If}
 use Rattle.kinds.specs.declared.Shape.{Shape}
 use Rattle.kinds.specs.declared.Shape.the-variants.{Wrong, Bare, Valued, Named, One, Two, Three}
-use Rattle.kinds.specs.Kinds.{row, kinds}
-use Rattle.kinds.specs.Rows.{Args, make, Known, SomeTree}
+use Rattle.kinds.specs.Kinds.{Args, row, kinds}
+use Rattle.kinds.specs.Rows.{make, Known, SomeTree}
 use Rattle.kinds.proofs.RowLaws.{Each, by-rows}
 use Rattle.layout.specs.WellFormed.{Fine, WellFormed}
 use Rattle.layout.specs.Goal.{ofSort}
@@ -62,7 +62,7 @@ sameSort (some Integer) (some Truth) = false
 sameSort (some Integer) (some Integer) = true
 
 -- the first of these kinds with this word and this first operand; a variable where there is none
-abbrev kindIn : List Kind → List ℕ → Option Sort → Kind
+unfoldable kindIn : List Kind → List ℕ → Option Sort → Kind
 kindIn [] w o = VariableKind
 kindIn (k ∷ ks) w o = elim (same (wordOf k) w && sameSort (firstOf (row k .shape)) o) [ true ↦ k | false ↦ kindIn ks w o ]
 
@@ -126,7 +126,7 @@ kindRead (Three s t u) w x = kindIn kinds w (some s)
 
 -- no two kinds have the same word and the same first operand
 kind-read : (k : Kind) (x : Args (row k .shape)) → kindRead (row k .shape) (wordOf k) x ≡ k
-unfolding wordOf symbolText
+unfolding kindIn symbolText
 kind-read Unknown x = refl
 kind-read True x = refl
 kind-read False x = refl
