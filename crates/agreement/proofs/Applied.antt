@@ -20,7 +20,6 @@ use Rattle.meaning.specs.Rule.{Case}
 use Rattle.meaning.specs.Cases.{sizeOf, casesOf, holds, AllHold, failures, firstFailure, held, failed}
 use Rattle.meaning.proofs.Failures.{first-fails}
 use Rattle.kinds.specs.Kinds.{find, kindOf}
-use Rattle.kinds.specs.Rows.{by-rows}
 use Rattle.layout.specs.Limits.{blockBytes}
 use Rattle.layout.specs.Checks.{weighted, checkOf, blockRight}
 use Rattle.layout.specs.Starts.{startAt}
@@ -162,7 +161,7 @@ sheetB =
     ++ block (17 ∷ 0 ∷ 0 ∷ 0 ∷ 0 ∷ 0 ∷ 0 ∷ 0 ∷ 0 ∷ 0 ∷ 0 ∷ 0 ∷ 0 ∷ 0 ∷ 0 ∷ 0 ∷ 17 ∷ 0 ∷ 1 ∷ 0 ∷ 0 ∷ 0 ∷ 0 ∷ 0 ∷ 0 ∷ 0 ∷ 0 ∷ 0 ∷ 0 ∷ 0 ∷ 0 ∷ 0 ∷ 8 ∷ 0 ∷ 0 ∷ 0 ∷ 1 ∷ []) 116 2
 
 pub computedA : Computed sheetA sheetB 4 2 2 (some (pos 0 ∷ pos 1 ∷ []))
-unfolding value sizeOf casesOf holds failures firstFailure held failed treeAt allBelow below course first enc dec isNarrow hasNarrowEnds leastOf greatestOf find kindOf by-rows weighted checkOf blockRight startAt ofTree ofNode lengthRight early zeros countsRight tailClear outsideClear header isLetter isNameByte allNameBytes nameRight sameBytes variableRight fresh findingOf placed typed nodeRefusal nodes refusalOf wordOf hexDigit hexText literal symbolText joined script
+unfolding value sizeOf casesOf holds failures firstFailure held failed treeAt allBelow below course first enc dec isNarrow hasNarrowEnds leastOf greatestOf find kindOf weighted checkOf blockRight startAt ofTree ofNode lengthRight early zeros countsRight tailClear outsideClear header isLetter isNameByte allNameBytes nameRight sameBytes variableRight fresh findingOf placed typed nodeRefusal nodes refusalOf wordOf hexDigit hexText literal symbolText joined script
 computedA = record {
   bytes = refl;
   other-bytes = refl;
@@ -187,7 +186,7 @@ sheet11-renamed =
     ++ block (17 ∷ 0 ∷ 0 ∷ 0 ∷ 0 ∷ 0 ∷ 0 ∷ 0 ∷ 0 ∷ 0 ∷ 0 ∷ 0 ∷ 0 ∷ 0 ∷ 0 ∷ 0 ∷ 17 ∷ 0 ∷ 1 ∷ 0 ∷ 0 ∷ 0 ∷ 0 ∷ 0 ∷ 0 ∷ 0 ∷ 0 ∷ 0 ∷ 0 ∷ 0 ∷ 0 ∷ 0 ∷ 21 ∷ 0 ∷ 0 ∷ 0 ∷ 1 ∷ 0 ∷ 0 ∷ 0 ∷ 0 ∷ 0 ∷ 0 ∷ 0 ∷ 0 ∷ 0 ∷ 0 ∷ 0 ∷ 16 ∷ 0 ∷ 0 ∷ 0 ∷ 0 ∷ 0 ∷ 0 ∷ 0 ∷ 12 ∷ 0 ∷ 0 ∷ 0 ∷ 0 ∷ 0 ∷ 0 ∷ 0 ∷ 10 ∷ 0 ∷ 2 ∷ 0 ∷ 3 ∷ []) 188 13
 
 pub computed11 : Computed sheet11 sheet11-renamed 60 60 0 none
-unfolding value sizeOf casesOf holds failures firstFailure held failed treeAt allBelow below course first enc dec isNarrow hasNarrowEnds leastOf greatestOf find kindOf by-rows weighted checkOf blockRight startAt ofTree ofNode lengthRight early zeros countsRight tailClear outsideClear header isLetter isNameByte allNameBytes nameRight sameBytes variableRight fresh findingOf placed typed nodeRefusal nodes refusalOf wordOf hexDigit hexText literal symbolText joined script
+unfolding value sizeOf casesOf holds failures firstFailure held failed treeAt allBelow below course first enc dec isNarrow hasNarrowEnds leastOf greatestOf find kindOf weighted checkOf blockRight startAt ofTree ofNode lengthRight early zeros countsRight tailClear outsideClear header isLetter isNameByte allNameBytes nameRight sameBytes variableRight fresh findingOf placed typed nodeRefusal nodes refusalOf wordOf hexDigit hexText literal symbolText joined script
 computed11 = record {
   bytes = refl;
   other-bytes = refl;

@@ -19,7 +19,7 @@ use Rattle.meaning.proofs.Listed.{listed, in-order, in-every}
 use Rattle.meaning.proofs.Counts.{case-count, held-failed}
 use Rattle.meaning.proofs.Repeats.{map-no-repeats}
 use Rattle.meaning.proofs.Failures.{failures-are, failures-once, failed-is}
-use Rattle.kinds.proofs.ClaimLaws.{follows}
+use Rattle.kinds.proofs.ClaimLaws.{throughout-parts}
 use Rattle.layout.specs.Parts.{variableCount, ruleIn, LaidOut}
 use Rattle.layout.specs.Sheet.{sheetOf}
 use Rattle.layout.proofs.PartLaws.{variable-total}
@@ -123,7 +123,7 @@ module _ {s : List ℕ} (h : Sheet s) where
   no-wrap k Integer t f = narrow-within (in-narrow (rw (tree-range (domainOf (ruleIn s)) t) at f) (value-in (in-every k) t))
 
   pub held : WidthHolds 16 (ruleIn s)
-  held = held16 (allowed h .well-formed) (λ c k. follows (FitsIn (ruleIn s)) (NoWrap 16 (valueIn c)) (no-wrap k) (ruleIn s .goal) (allowed h .lawful .ranges))
+  held = held16 (allowed h .well-formed) (λ c k. throughout-parts (NoWrap 16 (valueIn c)) (ruleIn s .goal) .1 (λ a t p. no-wrap k a t (allowed h .lawful .ranges a t p)))
 
 declares-from : (i : ℕ) (vs : List Variable) → declares constant16 symbolText 16 i vs ≡ from (λ j. record { name = symbolText j; sort = bitVec 16 }) i (length vs)
 declares-from i [] = refl

@@ -9,7 +9,6 @@ use Rattle.numbers.specs.Ranges.{isNarrow, hasNarrowEnds, leastOf, greatestOf}
 use Rattle.meaning.specs.Value.{value}
 use Rattle.meaning.specs.Cases.{sizeOf, casesOf, holds, failures, firstFailure, held, failed}
 use Rattle.kinds.specs.Kinds.{find, kindOf}
-use Rattle.kinds.specs.Rows.{by-rows}
 use Rattle.layout.specs.Checks.{weighted, checkOf, blockRight}
 use Rattle.layout.specs.Starts.{startAt}
 use Rattle.layout.specs.Goal.{treeAt}
@@ -30,5 +29,5 @@ use Rattle.writer.specs.Writes.{scriptRefusal}
 use Rattle.agreement.specs.Starred.{table, run}
 
 pub starred : map run table ≡ table
-unfolding value sizeOf casesOf holds failures firstFailure held failed treeAt allBelow below course first enc dec isNarrow hasNarrowEnds leastOf greatestOf find kindOf by-rows weighted checkOf blockRight startAt ofTree ofNode lengthRight early zeros countsRight tailClear outsideClear header isLetter isNameByte allNameBytes nameRight sameBytes variableRight fresh findingOf placed typed nodeRefusal nodes refusalOf wordOf hexDigit hexText literal symbolText joined script checkRefusal scriptRefusal over
+unfolding value sizeOf casesOf holds failures firstFailure held failed treeAt allBelow below course first enc dec isNarrow hasNarrowEnds leastOf greatestOf find kindOf weighted checkOf blockRight startAt ofTree ofNode lengthRight early zeros countsRight tailClear outsideClear header isLetter isNameByte allNameBytes nameRight sameBytes variableRight fresh findingOf placed typed nodeRefusal nodes refusalOf wordOf hexDigit hexText literal symbolText joined script checkRefusal scriptRefusal over
 starred = refl

@@ -24,7 +24,7 @@ use Rattle.layout.specs.Starts.{shapeAt}
 use Rattle.layout.specs.Parts.{nameSize, nameIn, variableIn, recordIn, Zeros, VariableLaidOut}
 use Rattle.layout.specs.Sheet.{recordBytes, variableRecord, joined, filled}
 use Rattle.layout.specs.WellFormed.{FineVariable}
-use Rattle.kinds.proofs.KindLaws.{byte-kind}
+use Rattle.kinds.proofs.KindLaws.{byte-names}
 
 module _ (s : List ℕ) where
   pub pair-of : {i x e : ℕ} → Run (byteAt s) i (pair x) e → u16At s i ≡ x
@@ -82,7 +82,7 @@ module _ (s : List ℕ) where
       let p₆ = has 14 (lit< tt) in
       let p₇ = has 15 (lit< tt) in
       let spare : recordIn s i .spare ≡ 0 = omega arith in
-      let kind = ap kindOf (run .each .0) ∙ byte-kind (r .kind) k .1 in
+      let kind = ap kindOf (run .each .0) ∙ byte-names (r .kind) in
       let a = u16-of s (i + 2) (r .a) (has 2 (lit< tt)) (add 2 ∙ has 3 (lit< tt)) in
       let b = u16-of s (i + 4) (r .b) (has 4 (lit< tt)) (add 4 ∙ has 5 (lit< tt)) in
       let c = u16-of s (i + 6) (r .c) (has 6 (lit< tt)) (add 6 ∙ has 7 (lit< tt)) in

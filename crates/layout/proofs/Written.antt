@@ -21,7 +21,7 @@ use Rattle.layout.specs.Checks.{checkOf, sealed}
 use Rattle.layout.specs.Starts.{shapeAt, operandsOf, unusedOf, Listed, Placed}
 use Rattle.layout.specs.Sheet.{recordBytes, variableRecord, joined, filled}
 use Rattle.layout.specs.WellFormed.{FineVariable}
-use Rattle.kinds.proofs.KindLaws.{byte-kind}
+use Rattle.kinds.proofs.KindLaws.{byte-small}
 use Rattle.layout.proofs.StartLaws.{Before, lower}
 
 -- ---- bytes
@@ -99,7 +99,7 @@ bytes-record {f} {v} {n} p h k w =
     let c : List ℕ = pair (r .c) ++ t in
     let b : List ℕ = pair (r .b) ++ c in
     let a : List ℕ = pair (r .a) ++ b in
-    bytes-cons (0 ∷ a) (byte-kind (r .kind) (p .known) .0)
+    bytes-cons (0 ∷ a) (byte-small (r .kind))
     (bytes-cons a (lit< tt)
     (bytes-append (pair (r .a)) b (bytes-pair (m .0))
     (bytes-append (pair (r .b)) c (bytes-pair (m .1))

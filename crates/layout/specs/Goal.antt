@@ -10,13 +10,9 @@ use Rattle.meaning.specs.Tree.{Tree, fls, const}
 use Rattle.kinds.specs.declared.Record.{Record}
 use Rattle.kinds.specs.declared.Shape.{Shape}
 use Rattle.kinds.specs.declared.Shape.the-variants.{Wrong, Bare, Valued, Named, One, Two, Three}
-use Rattle.kinds.specs.Kinds.{row}
-use Rattle.kinds.specs.Rows.{Args, make}
+use Rattle.kinds.specs.Kinds.{Args, row}
+use Rattle.kinds.specs.Rows.{make, SomeTree}
 use Rattle.layout.specs.Starts.{shapeAt, sortAt, startAt, Placed, Typed}
-
--- a tree of some sort
-abbrev pub SomeTree : Type 0
-SomeTree = (s : Sort) × Tree s
 
 -- the tree as one of the sort asked for; of the other sort, something stands for it
 abbrev pub recast : (s t : Sort) → Tree t → Tree s

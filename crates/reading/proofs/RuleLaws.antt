@@ -15,6 +15,7 @@ use Rattle.refusals.specs.declared.Refusal.{Refusal}
 use Rattle.numbers.specs.Bytes.{Bytes}
 use Rattle.meaning.specs.declared.Sort.the-variants.{Truth}
 use Rattle.meaning.specs.Rule.{Rule, domainOf}
+use Rattle.kinds.proofs.ClaimLaws.{throughout-parts}
 use Rattle.layout.specs.Limits.{blocksFor, variablePlace}
 use Rattle.layout.specs.Checks.{blockRight}
 use Rattle.layout.specs.Starts.{sortAt, startAt, Placed, Typed}
@@ -171,7 +172,7 @@ module _ (s : List ℕ) where
           names = λ i l. rw (variable-is s i (counted l)) (accepted-kept i (counted l) .0 .name);
           distinct = λ i j l k d. accepted-kept j (counted k) .1 i l (rw (variable-is s i (omega (arith, counted k)), variable-is s j (counted k)) at d);
           domains = λ i l. rw (variable-is s i (counted l)) (accepted-kept i (counted l) .0 .order);
-          ranges = goal-throughout (FitsIn (ruleIn s)) accepted-sound (λ j l. rw (finding-is accepted-sound j l) at (accepted-fits j l));
+          ranges = throughout-parts (FitsIn (ruleIn s)) (ruleIn s .goal) .0 (goal-throughout (FitsIn (ruleIn s)) accepted-sound (λ j l. rw (finding-is accepted-sound j l) at (accepted-fits j l)));
         }
 
   -- ---- and back
@@ -193,7 +194,7 @@ module _ (s : List ℕ) where
           nodes-passed =
               right-nodes
               (record {
-                each = λ n l. record { placed = o .nodes .placed n l; typed = o .nodes .typed n l; fits = rw (finding-is (o .nodes) n l) (throughout-goal (FitsIn (ruleIn s)) (o .nodes) (w .ranges) n l) };
+                each = λ n l. record { placed = o .nodes .placed n l; typed = o .nodes .typed n l; fits = rw (finding-is (o .nodes) n l) (throughout-goal (FitsIn (ruleIn s)) (o .nodes) (throughout-parts (FitsIn (ruleIn s)) (ruleIn s .goal) .1 (w .ranges)) n l) };
                 whole = o .nodes .whole;
                 goal = o .nodes .goal;
               });

@@ -18,11 +18,12 @@ use Rattle.kinds.specs.declared.Kind.{Kind}
 use Rattle.kinds.specs.declared.Kind.the-variants.{Unknown, True, False, Not, And, Or, Implies, Iff, Equal, Less, AtMost, Constant, Variable as VariableKind, Minus, Sum, Difference, Product, If}
 use Rattle.kinds.specs.declared.Shape.{Shape}
 use Rattle.kinds.specs.declared.Shape.the-variants.{Wrong, Bare, Valued, Named, One, Two, Three}
-use Rattle.kinds.specs.Kinds.{row, kinds}
-use Rattle.kinds.specs.Rows.{Args, make, Known, Each, by-rows}
+use Rattle.kinds.specs.Kinds.{Args, row, kinds}
+use Rattle.kinds.specs.Rows.{make, Known, SomeTree}
+use Rattle.kinds.proofs.RowLaws.{Each, by-rows}
 use Rattle.layout.specs.WellFormed.{Fine, WellFormed}
-use Rattle.layout.specs.Goal.{SomeTree, ofSort}
-use Rattle.layout.proofs.Made.{FineMade, foundMade, fine-make, found-make}
+use Rattle.layout.specs.Goal.{ofSort}
+use Rattle.layout.proofs.Made.{FineMade, foundMade, fine-parts, found-make}
 use Rattle.layout.proofs.Agree.{Alike}
 use Rattle.smtlib.specs.Tokens.{Atom, symbol, reserved, numeral, hexadecimal, binary, keyword, same}
 use Rattle.smtlib.specs.Sexps.{Sexp, atom, nil, cons, symbolIn, sexpsOf}
@@ -61,7 +62,7 @@ sameSort (some Integer) (some Truth) = false
 sameSort (some Integer) (some Integer) = true
 
 -- the first of these kinds with this word and this first operand; a variable where there is none
-abbrev kindIn : List Kind → List ℕ → Option Sort → Kind
+unfoldable kindIn : List Kind → List ℕ → Option Sort → Kind
 kindIn [] w o = VariableKind
 kindIn (k ∷ ks) w o = elim (same (wordOf k) w && sameSort (firstOf (row k .shape)) o) [ true ↦ k | false ↦ kindIn ks w o ]
 
@@ -125,7 +126,7 @@ kindRead (Three s t u) w x = kindIn kinds w (some s)
 
 -- no two kinds have the same word and the same first operand
 kind-read : (k : Kind) (x : Args (row k .shape)) → kindRead (row k .shape) (wordOf k) x ≡ k
-unfolding wordOf symbolText
+unfolding kindIn symbolText
 kind-read Unknown x = refl
 kind-read True x = refl
 kind-read False x = refl
@@ -174,7 +175,7 @@ module _ (v : ℕ) (few : v ≤ 100) where
     where
       step : (k : Kind) → Known (row k .shape) → (x : Args (row k .shape)) → Each Spells (row k .shape) x → Spells (row k .gives) (make k x)
       step k q x e f =
-          let r = shape-read (row k .shape) (wordOf k) x q e (rw (fine-make k q x v) at f) in
+          let r = shape-read (row k .shape) (wordOf k) x q e (fine-parts v k x f) in
           ap treeIn (found-make k q x (sexpStep constant16 symbolText))
           ∙ r .1
           ∙ ap (λ (l : Kind). built l (r .0)) (kind-read k x)

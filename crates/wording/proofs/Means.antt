@@ -16,8 +16,8 @@ use Rattle.meaning.specs.declared.Sort.the-variants.{Truth, Integer}
 use Rattle.meaning.specs.Tree.{Tree, tru, fls, neg, conj, disj, implies, iff, equal, less, atMost, const, var, minus, sum, difference, product, ite}
 use Rattle.meaning.specs.Value.{Of, implied, equivalent, equals, chosen, value as meant}
 use Rattle.meaning.proofs.Equals.{equals-same, equals-false}
-use Rattle.kinds.specs.Rows.{by-rows, Throughout}
-use Rattle.kinds.proofs.ClaimLaws.{own}
+use Rattle.kinds.proofs.RowLaws.{by-rows}
+use Rattle.kinds.proofs.ClaimLaws.{Throughout, own}
 use Rattle.layout.specs.Fold.{ofTree}
 use Rattle.smtlib.specs.Tokens.{Atom, symbol}
 use Rattle.smtlib.specs.Sexps.{atom}

@@ -21,7 +21,8 @@ use Rattle.meaning.specs.Value.{value as meant}
 use Rattle.meaning.specs.Rule.{Variable, Rule, noVariable, domainOf, Case, valueIn}
 use Rattle.meaning.specs.Cases.{Failing}
 use Rattle.meaning.specs.Cases.{holds as Cases·holds}
-use Rattle.kinds.specs.Rows.{by-rows, Throughout}
+use Rattle.kinds.proofs.RowLaws.{by-rows}
+use Rattle.kinds.proofs.ClaimLaws.{Throughout}
 use Rattle.smtlib.specs.Tokens.{Atom}
 use Rattle.smtlib.specs.Values.{truth}
 use Rattle.smtlib.specs.Terms.{Environment, value}

@@ -10,7 +10,7 @@ use Rattle.numbers.specs.Two.{enc}
 use Rattle.numbers.proofs.Bytes16.{narrow-within}
 use Rattle.meaning.specs.Rule.{Rule, Case, valueIn}
 use Rattle.meaning.specs.Cases.{Failing}
-use Rattle.kinds.specs.Rows.{Throughout}
+use Rattle.kinds.proofs.ClaimLaws.{Throughout}
 use Rattle.layout.specs.WellFormed.{WellFormed}
 use Rattle.smtlib.specs.Terms.{numberOf}
 use Rattle.smtlib.specs.Satisfaction.{Satisfies}

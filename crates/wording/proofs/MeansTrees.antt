@@ -7,13 +7,9 @@ use Rattle.meaning.specs.declared.Sort.{Sort}
 use Rattle.meaning.specs.declared.Sort.the-variants.{Truth, Integer}
 use Rattle.meaning.specs.Tree.{Tree, var}
 use Rattle.meaning.specs.Value.{value}
-use Rattle.kinds.specs.declared.Shape.{Shape}
-use Rattle.kinds.specs.declared.Shape.the-variants.{Wrong, Bare, Valued, Named, One, Two, Three}
-use Rattle.kinds.specs.Kinds.{row}
-use Rattle.kinds.specs.Rows.{Args, Each, by-rows, Throughout}
-use Rattle.kinds.proofs.ClaimLaws.{Parts, throughout-make}
+use Rattle.kinds.specs.Rows.{PartOf}
+use Rattle.kinds.proofs.ClaimLaws.{Throughout, throughout-parts}
 use Rattle.layout.specs.WellFormed.{Fine}
-use Rattle.layout.proofs.Made.{FineMade, fine-make}
 
 -- where variable i has the value ρ i, an integer is one of w bits: no operator wraps
 abbrev pub NoWrap : ℕ → (ℕ → ℤ) → (s : Sort) → Tree s → Type 0
@@ -27,21 +23,9 @@ Below v Integer t = (i : ℕ) → t ≡ var i → i < v
 
 -- ---- in a tree that has a place in a sheet of v variables, each variable is one of them
 module _ (v : ℕ) where
-  below-of : (s : Sort) (t : Tree s) → Fine v t → Below v s t
-  unfolding Fine by-rows
-  below-of Truth t f = tt
-  below-of Integer t f = λ i e. subst (λ (u : Tree Integer). Fine v u) e f
-
-  parts-below : (h : Shape) (x : Args h) → Each (λ s u. Fine v u → Throughout (Below v) u) h x → FineMade v h x → Parts (Below v) h x
-  parts-below Wrong x y f = tt
-  parts-below Bare x y f = tt
-  parts-below Valued x y f = tt
-  parts-below Named x y f = tt
-  parts-below (One s) x y f = y f
-  parts-below (Two s t) x y f = (y .0 (f .0), y .1 (f .1))
-  parts-below (Three s t u) x y f = (y .0 (f .0), y .1 (f .1), y .2 (f .2))
+  below-of : {s : Sort} (t : Tree s) → Fine v t → (r : Sort) (u : Tree r) → PartOf u t → Below v r u
+  below-of t f Truth u p = tt
+  below-of t f Integer u p = λ i e. f .variables i (subst (λ (w : Tree Integer). PartOf w t) e p)
 
   pub fine-below : {s : Sort} (t : Tree s) → Fine v t → Throughout (Below v) t
-  fine-below t =
-      by-rows (λ s u. Fine v u → Throughout (Below v) u)
-      (λ k q x y f. rw (throughout-make (Below v) k q x) (below-of (row k .gives) _ f, parts-below (row k .shape) x y (rw (fine-make k q x v) at f))) t
+  fine-below t f = throughout-parts (Below v) t .1 (below-of t f)

@@ -23,11 +23,13 @@ use Rattle.kinds.specs.declared.Kind.{Kind}
 use Rattle.kinds.specs.declared.Kind.the-variants.{Unknown, True, False, Not, And, Or, Implies, Iff, Equal, Less, AtMost, Constant, Variable as VariableKind, Minus, Sum, Difference, Product, If}
 use Rattle.kinds.specs.declared.Shape.{Shape}
 use Rattle.kinds.specs.declared.Shape.the-variants.{Wrong, Bare, Valued, Named, One, Two, Three}
-use Rattle.kinds.specs.Kinds.{row}
-use Rattle.kinds.specs.Rows.{Args, make, Known, Each, by-rows}
+use Rattle.kinds.specs.Kinds.{Args, row}
+use Rattle.kinds.specs.Rows.{make, Known}
+use Rattle.kinds.proofs.RowLaws.{Each, by-rows}
+use Rattle.kinds.proofs.ClaimLaws.{Throughout}
 use Rattle.layout.specs.Fold.{Found, ofTree}
 use Rattle.layout.specs.WellFormed.{FineVariable, Fine, WellFormed}
-use Rattle.layout.proofs.Made.{FineMade, foundMade, fine-make, found-make}
+use Rattle.layout.proofs.Made.{FineMade, foundMade, fine-parts, throughout-fine, fine-throughout, found-make}
 use Rattle.smtlib.specs.Tokens.{Atom, symbol, same}
 use Rattle.smtlib.specs.Sexps.{Sexp, atom}
 use Rattle.smtlib.specs.Values.{Sort as SmtSort, bool, bitVec, Val, bits, sorted}
@@ -50,15 +52,15 @@ AllFine v [] = Unit {0}
 AllFine v (t ∷ ts) = Fine v t × AllFine v ts
 
 pub claims-fine : (r : Rule) → WellFormed r → AllFine (length (r .variables)) (claims 0 (r .variables) (r .goal))
-unfolding Fine by-rows
+unfolding Throughout by-rows ofTree
 claims-fine r f = from 0 (r .variables) (omega arith) (f .variables)
   where
     from : (i : ℕ) (vs : List Variable) → i + length vs ≤ length (r .variables) → ((j : ℕ) → j < length vs → FineVariable (getD vs j noVariable)) → AllFine (length (r .variables)) (claims i vs (r .goal))
-    from i [] h e = (f .goal, tt)
+    from i [] h e = (throughout-fine _ _ (tt, fine-throughout _ (r .goal) (f .goal)), tt)
     from i (v ∷ vs) h e =
         let b : i < length (r .variables) = omega arith in
         let n = e 0 (omega arith) .ends in
-        (((n .low, b), (b, n .high)), from (suc i) vs (omega arith) (λ j l. e (suc j) (omega arith)))
+        (throughout-fine _ _ (tt, ((tt, ((n .low, tt), (b, tt))), (tt, ((b, tt), (n .high, tt))))), from (suc i) vs (omega arith) (λ j l. e (suc j) (omega arith)))
 
 -- ---- a term's sort
 
@@ -121,7 +123,7 @@ module _ (constant : ℤ → Atom) (name : ℕ → List ℕ) (w v : ℕ) (env : 
   tree-sorted t f = by-rows SortedTree step t f
     where
       step : (k : Kind) → Known (row k .shape) → (x : Args (row k .shape)) → Each SortedTree (row k .shape) x → SortedTree (row k .gives) (make k x)
-      step k q x e f = rw (found-make k q x (sexpStep constant name)) (kind-sorted k _ (operands (row k .shape) x q e (rw (fine-make k q x v) at f)))
+      step k q x e f = rw (found-make k q x (sexpStep constant name)) (kind-sorted k _ (operands (row k .shape) x q e (fine-parts v k x f)))
 
 -- ---- the script's commands, for up to m variables
 
@@ -247,7 +249,7 @@ module _ (constant : ℤ → Atom) (name : ℕ → List ℕ) where
       × (term (difference a b) ≡ call2 (ascii "bvsub") (term a) (term b))
       × (term (product a b) ≡ call2 (ascii "bvmul") (term a) (term b))
       × (term (ite p a b) ≡ call3 (ascii "ite") (term p) (term a) (term b))
-  unfolding ofTree by-rows wordOf
+  unfolding ofTree wordOf
   operators p q a b z i = (refl, refl, refl, refl, refl, refl, refl, refl, refl, refl, refl, refl, refl, refl, refl, refl, refl)
 
   -- (and (bvsle MIN NAME) (bvsle NAME MAX))
@@ -261,7 +263,7 @@ module _ (constant : ℤ → Atom) (name : ℕ → List ℕ) where
 
   -- a range for each variable, and then the negated goal
   pub asserts-are : (w : ℕ) (r : Rule) → asked constant name w r .asserts ≡ ranges 0 (r .variables) ++ (call1 (ascii "not") (term (r .goal)) ∷ [])
-  unfolding ofTree by-rows wordOf
+  unfolding ofTree wordOf
   asserts-are w r = from 0 (r .variables)
     where
       from : (i : ℕ) (vs : List Variable) → map (λ (t : Tree Truth). term t) (claims i vs (r .goal)) ≡ ranges i vs ++ (call1 (ascii "not") (term (r .goal)) ∷ [])

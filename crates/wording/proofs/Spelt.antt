@@ -19,8 +19,9 @@ use Rattle.kinds.specs.declared.Kind.{Kind}
 use Rattle.kinds.specs.declared.Kind.the-variants.{Unknown, True, False, Not, And, Or, Implies, Iff, Equal, Less, AtMost, Constant, Variable as VariableKind, Minus, Sum, Difference, Product, If}
 use Rattle.kinds.specs.declared.Shape.{Shape}
 use Rattle.kinds.specs.declared.Shape.the-variants.{Wrong, Bare, Valued, Named, One, Two, Three}
-use Rattle.kinds.specs.Kinds.{row}
-use Rattle.kinds.specs.Rows.{Args, Known, Each, by-rows}
+use Rattle.kinds.specs.Kinds.{Args, row}
+use Rattle.kinds.specs.Rows.{Known}
+use Rattle.kinds.proofs.RowLaws.{Each, by-rows}
 use Rattle.layout.proofs.Made.{foundMade, found-make}
 use Rattle.smtlib.specs.Characters.{every, letterChar, digitChar, symbolChar}
 use Rattle.smtlib.specs.Tokens.{Atom, symbol, numeral, reservedWords, simple}

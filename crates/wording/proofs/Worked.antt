@@ -13,9 +13,11 @@ use Rattle.numbers.specs.Two.{enc}
 use Rattle.meaning.specs.declared.Sort.{Sort}
 use Rattle.meaning.specs.declared.Sort.the-variants.{Truth, Integer}
 use Rattle.meaning.specs.Tree.{Tree, tru, fls, neg, conj, disj, implies, iff, equal, less, atMost, const, var, minus, sum, difference, product, ite}
-use Rattle.kinds.specs.Rows.{by-rows}
+use Rattle.kinds.proofs.RowLaws.{by-rows}
+use Rattle.kinds.proofs.ClaimLaws.{Throughout}
 use Rattle.layout.specs.Fold.{ofTree}
 use Rattle.layout.specs.WellFormed.{Fine}
+use Rattle.layout.proofs.Made.{throughout-fine}
 use Rattle.layout.proofs.Agree.{Alike}
 use Rattle.layout.proofs.Example.{ruleA, wellA}
 use Rattle.smtlib.specs.Tokens.{symbol, hexadecimal}
@@ -74,20 +76,20 @@ integers =
     ∷ []
 
 truth-texts : map (λ r. text16 (r .0)) truths ≡ map (λ r. ascii (r .1)) truths
-unfolding ofTree by-rows wordOf symbolText
+unfolding ofTree wordOf symbolText
 truth-texts = refl
 
 integer-texts : map (λ r. text16 (r .0)) integers ≡ map (λ r. ascii (r .1)) integers
-unfolding ofTree by-rows wordOf symbolText literal hexText hexDigit enc
+unfolding ofTree wordOf symbolText literal hexText hexDigit enc
 integer-texts = refl
 
 -- -1 and -32,768
 pub minus-one : text literal symbolText (const (negsuc 0)) ≡ ascii "#xffff"
-unfolding ofTree by-rows literal hexText hexDigit enc
+unfolding ofTree literal hexText hexDigit enc
 minus-one = refl
 
 pub least : text literal symbolText (const (negsuc 32767)) ≡ ascii "#x8000"
-unfolding ofTree by-rows literal hexText hexDigit enc
+unfolding ofTree literal hexText hexDigit enc
 least = refl
 
 -- ---- sheet A
@@ -103,7 +105,7 @@ bytesA =
     ++ ascii "(exit)\n"))))))
 
 pub scriptA : script ruleA ≡ bytesA
-unfolding script joined ofTree by-rows wordOf symbolText literal hexText hexDigit enc
+unfolding script joined ofTree wordOf symbolText literal hexText hexDigit enc
 scriptA = refl
 
 pub lengthA : length (script ruleA) ≡ 234
@@ -122,7 +124,7 @@ readA = record {
 }
 
 askedA : asked16 ruleA ≡ readA
-unfolding ofTree by-rows wordOf constant16 symbolText enc
+unfolding ofTree wordOf constant16 symbolText enc
 askedA = refl
 
 -- by the theorem, and by computation
@@ -135,11 +137,11 @@ read-computed = refl
 
 -- (0, 1) satisfies it, and (1, 1) does not
 metA : Satisfies (script ruleA) (0 ∷ 1 ∷ [])
-unfolding scriptRead ofTree by-rows wordOf constant16 symbolText enc
+unfolding scriptRead ofTree wordOf constant16 symbolText enc
 metA = script-satisfied ruleA wellA (0 ∷ 1 ∷ []) .1 (meets-test (asked16 ruleA) (0 ∷ 1 ∷ []) .1 refl)
 
 unmetA : Satisfies (script ruleA) (1 ∷ 1 ∷ []) → ⊥
-unfolding scriptRead ofTree by-rows wordOf constant16 symbolText enc
+unfolding scriptRead ofTree wordOf constant16 symbolText enc
 unmetA k = false≢true (meets-test (asked16 ruleA) (1 ∷ 1 ∷ []) .0 (script-satisfied ruleA wellA (1 ∷ 1 ∷ []) .0 k))
 
 -- in any setting v1 stands for the second number, and the goal's term has sort Bool
@@ -157,12 +159,12 @@ goal-printable : Printable (sexp constant16 symbolText (ruleA .goal))
 goal-printable = printable16 (ruleA .goal)
 
 same-goal : (t : Tree Truth) → Fine 2 t → text16 t ≡ ascii "(= v0 v1)" → t ≡ equal (var 0) (var 1)
-unfolding ofTree by-rows wordOf symbolText
+unfolding ofTree wordOf symbolText
 same-goal t f e = same-tree (lit≤ tt) (lit≤ tt) f (wellA .goal) e
 
 apart : text16 (iff tru fls) ≡ text16 (ruleA .goal) → ⊥
-unfolding Fine by-rows
-apart e = equalities-apart {v = 0} (lit≤ tt) (lit≤ tt) tru fls (var 0) (var 1) (tt, tt) (wellA .goal) e
+unfolding Throughout by-rows ofTree
+apart e = equalities-apart {v = 0} (lit≤ tt) (lit≤ tt) tru fls (var 0) (var 1) (throughout-fine 0 (iff tru fls) (tt, ((tt, tt), (tt, tt)))) (wellA .goal) e
 
 alike : Alike ruleA ruleA
 alike = script-injective ruleA ruleA wellA wellA refl
