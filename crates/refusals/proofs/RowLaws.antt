@@ -8,6 +8,8 @@ use mathlib.Core.Option.{Option, none, some}
 use native.Mathlib.Nat.{zero-add, suc-add, eq-or-lt-of-le}
 use native.Mathlib.Decide.{decLt}
 use native.Mathlib.Omega.{arith}
+use borrow.Author.Tests.{leb-true, leb-false}
+use lib.Dec.{leb}
 use lib.ListN.{length}
 use Rattle.lists.specs.First.{_otherwise_, first}
 use Rattle.lists.proofs.FirstLaws.{first-suc}
@@ -68,6 +70,10 @@ exactly-row {C} b n p f g = exactly-by (unless b n p) refused (λ e. passed b re
 pub exactly-unless : {P : Type 0} {b : Bool} (n p : ℕ) → Decides b P → Exactly (row n p (P → ⊥)) (unless b n p)
 exactly-unless {P} {b} n p d = exactly-row b n p (λ e h. h (d .0 e)) (denied d .0)
 
+-- where m is more than k
+pub exactly-most : (m k n p : ℕ) → Exactly (row n p (k < m)) (unless (leb m k) n p)
+exactly-most m k n p = exactly-row (leb m k) n p (λ e h. omega (arith, leb-true m k e)) (leb-false m k)
+
 -- ---- one table after another
 applies-inside : (xs : List Row) (i : ℕ) (r : Refusal) → Applies xs i r → i < length xs
 applies-inside [] i r a = absurd a
@@ -94,6 +100,31 @@ applies-split [] ys i a = inr (record { rank = i; there = omega arith; applies =
 applies-split (x ∷ xs) ys zero a = inl a
 applies-split (x ∷ xs) ys (suc i) a = ⊎-elim inl (λ w. inr (record { rank = w .rank; there = omega (arith, w .there); applies = w .applies })) (applies-split xs ys i a)
 
+module _ (xs ys : List Row) {r : Refusal} where
+  answered-left : Answered xs r → Answered (xs then ys) r
+  answered-left a = record {
+    rank = a .rank;
+    applies = applies-left xs ys (a .rank) r (a .applies);
+    first = λ i t l b. ⊎-elim (a .first i t l) (λ w. omega (arith, w .there, applies-inside xs (a .rank) r (a .applies))) (applies-split xs ys i b);
+  }
+
+  answered-right : NoneApplies xs → Answered ys r → Answered (xs then ys) r
+  answered-right silent a = record {
+    rank = length xs + a .rank;
+    applies = applies-right xs ys (a .rank) r (a .applies);
+    first = λ i t l b. ⊎-elim (silent i t) (λ w. a .first (w .rank) t (omega (arith, w .there)) (w .applies)) (applies-split xs ys i b);
+  }
+
+  -- and back: by the first, or by the second where the first is silent
+  pub answered-split : Answered (xs then ys) r → Answered xs r ⊎ (NoneApplies xs × Answered ys r)
+  answered-split a = ⊎-elim (λ b. inl (record { rank = a .rank; applies = b; first = λ i t l c. a .first i t l (applies-left xs ys i t c) })) (λ w. inr (silent w, later w)) (applies-split xs ys (a .rank) (a .applies))
+    where
+      silent : Later xs ys (a .rank) r → NoneApplies xs
+      silent w i t c = a .first i t (omega (arith, w .there, applies-inside xs i t c)) (applies-left xs ys i t c)
+
+      later : Later xs ys (a .rank) r → Answered ys r
+      later w = record { rank = w .rank; applies = w .applies; first = λ i t l c. a .first (length xs + i) t (omega (arith, w .there)) (applies-right xs ys i t c) }
+
 pub exactly-then : {xs ys : List Row} {o q : Option Refusal} → Exactly xs o → (o ≡ none → Exactly ys q) → Exactly (xs then ys) (o otherwise q)
 exactly-then {xs} {ys} {o} {q} f g = go o f g
   where
@@ -101,25 +132,8 @@ exactly-then {xs} {ys} {o} {q} f g = go o f g
     go none f g =
         let silent = f .passed .0 refl in
         let h = g refl in
-        exactly-by q
-        (λ r e.
-        let a = h .refused r .0 e in
-        record {
-          rank = length xs + a .rank;
-          applies = applies-right xs ys (a .rank) r (a .applies);
-          first = λ i t l b. ⊎-elim (silent i t) (λ w. a .first (w .rank) t (omega (arith, w .there)) (w .applies)) (applies-split xs ys i b);
-        })
-        (λ e i t b. ⊎-elim (silent i t) (λ w. h .passed .0 e (w .rank) t (w .applies)) (applies-split xs ys i b))
-    go (some x) f g =
-        exactly-by (some x)
-        (λ r e.
-        let a = f .refused r .0 e in
-        record {
-          rank = a .rank;
-          applies = applies-left xs ys (a .rank) r (a .applies);
-          first = λ i t l b. ⊎-elim (a .first i t l) (λ w. omega (arith, w .there, applies-inside xs (a .rank) r (a .applies))) (applies-split xs ys i b);
-        })
-        (λ e. none-some e)
+        exactly-by q (λ r e. answered-right xs ys silent (h .refused r .0 e)) (λ e i t b. ⊎-elim (silent i t) (λ w. h .passed .0 e (w .rank) t (w .applies)) (applies-split xs ys i b))
+    go (some x) f g = exactly-by (some x) (λ r e. answered-left xs ys (f .refused r .0 e)) (λ e. none-some e)
 
 -- ---- a table for each number
 no-row : Exactly [] none
