@@ -2,10 +2,12 @@
 -- most 12), whose rule holds in all 60; and to these sheets with other names. So each premise is seen to be met. Assumes nothing.
 use Prim.Native.Nat.{ℕ, _+_, _/_, _≤_, _<_}
 use mathlib.Core.Path.{_≡_, refl, sym, _∙_}
+use mathlib.Core.Logic.{inl, ⊎-elim}
 use mathlib.Core.Bool.{true}
 use mathlib.Core.List.{List, [], _∷_, _++_}
 use mathlib.Core.Option.{Option, none, some}
 use native.Mathlib.Omega.{arith}
+use denote.Ref.{RefT}
 use lib.Dec.{lit≤}
 use lib.IntN.{ℤ, pos, negsuc}
 use lib.ListN.{length, set, take, drop}
@@ -29,6 +31,8 @@ use Rattle.layout.specs.Sheet.{sheetOf}
 use Rattle.layout.specs.Fold.{ofTree, ofNode}
 use Rattle.layout.proofs.Example.{areBytes, bytes-by}
 use Rattle.refusals.specs.declared.Reading.the-variants.{Accepted as accepted}
+use Rattle.refusals.specs.Rows.{Answered}
+use Rattle.blocks.specs.Block.{BlockPart}
 use Rattle.blocks.specs.Early.{lengthRight, early}
 use Rattle.header.specs.Header.{zeros, countsRight, tailClear, outsideClear, header}
 use Rattle.records.specs.Variables.{isLetter, isNameByte, allNameBytes, nameRight, sameBytes, variableRight, fresh}
@@ -36,10 +40,11 @@ use Rattle.findings.specs.declared.Finding.the-variants.{Integer}
 use Rattle.findings.specs.Findings.{findingOf}
 use Rattle.order.specs.Order.{placed}
 use Rattle.nodes.specs.Nodes.{typed, nodeRefusal, nodes, findingAt}
-use Rattle.reading.specs.Rows.{Answer}
+use Rattle.reading.specs.Rows.{sheetRows}
 use Rattle.reading.specs.Cascade.{refusalOf}
 use Rattle.reading.specs.Lawful.{Allowed}
-use Rattle.reading.proofs.Exact.{refused-exactly, accepted-exactly}
+use Rattle.reading.specs.Name.{NamePart}
+use Rattle.reading.proofs.Exact.{sheet-exactly}
 use Rattle.reading.proofs.Ranges.{nodeValue, in-range, in-16-bits}
 use Rattle.odometer.specs.Limit.{mostCases, caseCount}
 use Rattle.cases.specs.declared.Checked.the-variants.{Holds, Fails}
@@ -57,7 +62,7 @@ use Rattle.writer.specs.Writes.{enoughRoom}
 use Rattle.agreement.specs.Starred.{block, case1, case8, case11}
 use Rattle.agreement.specs.Statements.{Sheet, settingOf, Matched, Listed}
 use Rattle.agreement.proofs.Proved.{held as held-in-16}
-use Rattle.agreement.proofs.Proved.{tallied, checked, sheet-of-rule, rule-of-sheet, one-byte-changed, holds-where, room-enough, match, match-in-bits, check-agrees, tally-agrees, same-script}
+use Rattle.agreement.proofs.Proved.{tallied, checked, sheet-of-rule, rule-of-sheet, one-byte-changed, holds-where, room-enough, name-empty, block-empty, match, match-in-bits, check-agrees, tally-agrees, same-script}
 
 -- ---- what is computed of a sheet of two variables, and of one with other names
 pub record Computed (s other : List ℕ) (cases heldCases failedCases : ℕ) (firstCase : Option (List ℤ)) : Type 0 where
@@ -75,10 +80,10 @@ pub record Computed (s other : List ℕ) (cases heldCases failedCases : ℕ) (fi
 
 module _ {s other : List ℕ} {cases heldCases failedCases : ℕ} {firstCase : Option (List ℤ)} (c : Computed s other cases heldCases failedCases firstCase) (few : cases ≤ mostCases) where
   pub sheet : Sheet s
-  sheet = record { bytes = bytes-by s (c .bytes); no-row = accepted-exactly s .0 (c .accepts) }
+  sheet = record { bytes = bytes-by s (c .bytes); no-row = sheet-exactly s .passed .0 (c .accepts) }
 
   pub other-sheet : Sheet other
-  other-sheet = record { bytes = bytes-by other (c .other-bytes); no-row = accepted-exactly other .0 (c .other-accepts) }
+  other-sheet = record { bytes = bytes-by other (c .other-bytes); no-row = sheet-exactly other .passed .0 (c .other-accepts) }
 
   pub few-cases : caseCount (ruleIn s) ≤ mostCases
   few-cases = rw (c .cases-are) few
@@ -242,6 +247,22 @@ pub case-A : Case (ruleIn sheetA) (pos 0 ∷ pos 1 ∷ [])
 case-A = first-fails (ruleIn sheetA) (computedA .first-is) .0
 
 -- ---- a sheet that is refused: 16,384 + 16,384 at node 2
-pub refused-8 : Answer (case8 .sheet) (record { number = 8; place = 2 })
+pub refusal-8 : refusalOf (case8 .sheet) ≡ some (record { number = 8; place = 2 })
 unfolding allBelow below course first dec isNarrow hasNarrowEnds leastOf greatestOf find kindOf weighted checkOf blockRight startAt ofNode lengthRight early zeros countsRight tailClear outsideClear header isLetter isNameByte allNameBytes nameRight sameBytes variableRight fresh findingOf placed typed nodeRefusal nodes refusalOf
-refused-8 = refused-exactly (case8 .sheet) (record { number = 8; place = 2 }) .0 refl
+refusal-8 = refl
+
+pub refused-8 : Answered (sheetRows (case8 .sheet)) (record { number = 8; place = 2 })
+refused-8 = sheet-exactly (case8 .sheet) .refused (record { number = 8; place = 2 }) .0 refusal-8
+
+-- ---- parts of a lent sheet: a name of sheet A, none of the sheet that is refused, and no third block of sheet A
+abbrev lent : List ℕ → RefT (List ℕ)
+lent s = record { ptr = (0, 0); name = 0; now = s }
+
+pub name-A : (part : RefT (List ℕ)) → NamePart (lent sheetA) 0 part → length (part .now) ≡ 0 → ⊥
+name-A part p e = ⊎-elim (λ w. let z : _≡_ {A = ℕ} 0 1 = cc (w .1, computedA .accepts) in omega arith) (λ l. omega (arith, computedA .variables)) (name-empty (lent sheetA) part 0 p .0 e)
+
+pub no-name-8 : (part : RefT (List ℕ)) → NamePart (lent (case8 .sheet)) 0 part → length (part .now) ≡ 0
+no-name-8 part p = name-empty (lent (case8 .sheet)) part 0 p .1 (inl (record { number = 8; place = 2 }, refusal-8))
+
+pub no-block-A : (part : RefT (List ℕ)) → BlockPart (lent sheetA) 2 part → length (part .now) ≡ 0
+no-block-A part p = block-empty (lent sheetA) part 2 p .1 (inl (λ h. omega (arith, computedA .size)))

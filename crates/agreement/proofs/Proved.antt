@@ -1,13 +1,15 @@
 -- The promises of `specs/Statements`, proved. Assumes nothing.
-use Prim.Native.Nat.{ℕ, suc, _≤_}
+use Prim.Native.Nat.{ℕ, suc, _+_, _*_, _≤_}
 use mathlib.Core.Path.{_≡_, refl, ap, subst, _∙_}
-use mathlib.Core.Logic.{_↔_, Iff·trans}
+use mathlib.Core.Logic.{_↔_, Iff·trans, _⊎_, inl, inr, ⊎-elim}
 use mathlib.Core.List.{List, [], _∷_, map, List·Memᴰ, Memᴰ·map, Memᴰ·of-map}
-use mathlib.Core.Option.{none, some}
+use mathlib.Core.Option.{Option, none, some}
+use native.Mathlib.Decide.{decLt, decLe}
 use native.Mathlib.Omega.{arith}
 use lib.IntN.{ℤ}
 use lib.ListN.{length, take, length-map}
 use Rattle.lists.specs.Places.{from, NoRepeats}
+use Rattle.lists.proofs.PartLaws.{empty-where}
 use Rattle.numbers.proofs.Bytes16.{narrow-within}
 use Rattle.numbers.proofs.NarrowLaws.{in-narrow}
 use Rattle.meaning.specs.declared.Sort.{Sort}
@@ -20,21 +22,26 @@ use Rattle.meaning.proofs.Counts.{case-count, held-failed}
 use Rattle.meaning.proofs.Repeats.{map-no-repeats}
 use Rattle.meaning.proofs.Failures.{failures-are, failures-once, failed-is}
 use Rattle.kinds.proofs.ClaimLaws.{throughout-parts}
+use Rattle.layout.specs.Limits.{blockBytes}
 use Rattle.layout.specs.Parts.{variableCount, ruleIn, LaidOut}
 use Rattle.layout.specs.Sheet.{sheetOf}
 use Rattle.layout.proofs.PartLaws.{variable-total}
 use Rattle.layout.proofs.SheetBack.{sheet-laid-out}
 use Rattle.layout.proofs.Agree.{lengths, agrees}
+use Rattle.refusals.specs.declared.Refusal.{Refusal}
+use Rattle.refusals.proofs.AfterLaws.{passes}
 use Rattle.findings.proofs.SoundFindings.{tree-range, value-in}
 use Rattle.reading.specs.Cascade.{refusalOf}
 use Rattle.reading.specs.Lawful.{FitsIn, Allowed}
-use Rattle.reading.proofs.Exact.{refused-exactly, accepted-exactly}
+use Rattle.reading.specs.Name.{NameGiven}
+use Rattle.reading.proofs.Exact.{sheet-exactly}
+use Rattle.reading.proofs.NameLaws.{given-name}
 use Rattle.reading.proofs.RuleLaws.{accepted-means, rule-some, rule-exactly, rule-to-sheet, rule-allowed, sheet-to-rule}
 use Rattle.reading.proofs.Change.{changed-byte}
 use Rattle.odometer.specs.Limit.{mostCases, caseCount}
 use Rattle.cases.specs.declared.Checked.the-variants.{Fails}
 use Rattle.cases.specs.Checks.{tryRefusal, checkRefusal}
-use Rattle.cases.proofs.Exact.{tally-none, tally-exactly, check-none, check-exactly}
+use Rattle.cases.proofs.Exact.{tally-exactly, check-exactly}
 use Rattle.cases.proofs.Agreement.{fails-exactly, holds-exactly, room-fails}
 use Rattle.smtlib.specs.Values.{bitVec}
 use Rattle.smtlib.specs.Commands.{Declaration}
@@ -56,14 +63,30 @@ use Rattle.agreement.specs.Statements.{Sheet, settingOf, symbols, Matche
 
 -- ---- demand 1
 pub refused-by-row : promise.RefusedExactly
-refused-by-row s = (refused-exactly s, accepted-exactly s)
+refused-by-row = sheet-exactly
 
 pub calls-refused-by-row : promise.CallsRefusedExactly
-calls-refused-by-row s room r = (tally-exactly s r, check-exactly s room r, script-exactly s room r)
+calls-refused-by-row s room = (tally-exactly s, check-exactly s room, script-exactly s room)
+
+pub name-empty : promise.NameEmpty
+name-empty sheet part i p = Iff·trans (empty-where (λ g. let n = given-name (sheet .now) i g in (n .some-byte, n .inside)) p) (λ f. go (refusalOf (sheet .now)) refl f, back)
+  where
+    go : (o : Option Refusal) → refusalOf (sheet .now) ≡ o → (NameGiven (sheet .now) i → ⊥) → ((r : Refusal) × (refusalOf (sheet .now) ≡ some r)) ⊎ (variableCount (sheet .now) ≤ i)
+    go (some r) e f = inl (r, e)
+    go none e f = inr (elim (decLt i (variableCount (sheet .now))) [ yes l ↦ absurd (f (e, l)) | no l ↦ omega arith ])
+
+    back : ((r : Refusal) × (refusalOf (sheet .now) ≡ some r)) ⊎ (variableCount (sheet .now) ≤ i) → NameGiven (sheet .now) i → ⊥
+    back (inl w) g = let z : _≡_ {A = ℕ} 0 1 = cc (w .1, g .0) in omega arith
+    back (inr l) g = omega (arith, g .1)
+
+pub block-empty : promise.BlockEmpty
+block-empty sheet part k p =
+    Iff·trans (empty-where (λ g. (omega arith, omega (arith, g .0))) p)
+    (λ f. elim (decLe (blockBytes * k + blockBytes) (length (sheet .now))) [ yes l ↦ inr (λ e. f (l, e)) | no l ↦ inl l ], λ w g. ⊎-elim (λ f. f (g .0)) (λ f. f (g .1)) w)
 
 module _ {s : List ℕ} (h : Sheet s) where
   accepts : refusalOf s ≡ none
-  accepts = accepted-exactly s .1 (h .no-row)
+  accepts = sheet-exactly s .passed .1 (h .no-row)
 
   pub allowed : Allowed (ruleIn s)
   allowed = rule-allowed s (h .bytes) (ruleIn s) (rule-some s accepts)
@@ -77,7 +100,7 @@ sheet-of-rule s h = (allowed h, rule-to-sheet s (h .bytes) (ruleIn s) (rule-some
 pub rule-of-sheet : promise.RuleOfSheet
 rule-of-sheet r a =
     let w = rule-exactly (sheetOf r) r .0 (sheet-to-rule r a) in
-    (record { bytes = sheet-laid-out r (a .well-formed) .bytes; no-row = accepted-exactly (sheetOf r) .0 (w .0) }, w .1)
+    (record { bytes = sheet-laid-out r (a .well-formed) .bytes; no-row = sheet-exactly (sheetOf r) .passed .0 (w .0) }, w .1)
 
 pub one-byte-changed : promise.OneByteChanged
 one-byte-changed s h = changed-byte s (h .bytes) (accepts h)
@@ -91,10 +114,11 @@ all-counted r = (held-failed r, case-count r)
 
 module _ {s : List ℕ} (h : Sheet s) (few : caseCount (ruleIn s) ≤ mostCases) where
   pub tallied : tryRefusal s ≡ none
-  tallied = tally-none s .1 (h .no-row, λ l. omega (arith, case-count (ruleIn s)))
+  tallied = passes (caseCount (ruleIn s)) mostCases 10 0 (accepts h) few
 
   pub checked : {room : ℕ} → variableCount s ≤ room → checkRefusal s room ≡ none
-  checked {room} l = check-none s room .1 (h .no-row, λ m. omega (arith, case-count (ruleIn s)), λ m. omega arith)
+  unfolding checkRefusal
+  checked {room} l = passes (variableCount s) room 9 (variableCount s) tallied l
 
 pub holds-where : promise.HoldsExactly
 holds-where s h few before after r l c = holds-exactly s c (checked h few l)

@@ -2,7 +2,7 @@
 -- in `proofs/Applied`. What each call answers stands beside it: `refusalOf`, `NamePart`, `BlockPart`, `Checks`, `Tallies`, `Writes`, `capi/specs/Codes`.
 use Prim.Native.Nat.{ℕ, _+_, _/_, _≤_, _<_}
 use mathlib.Core.Path.{_≡_}
-use mathlib.Core.Logic.{_↔_}
+use mathlib.Core.Logic.{_↔_, _⊎_}
 use mathlib.Core.List.{List, map, List·Memᴰ}
 use mathlib.Core.Option.{none, some}
 use lib.IntN.{ℤ}
@@ -11,30 +11,32 @@ use denote.Ref.{RefT}
 use Rattle.lists.specs.Places.{from, NoRepeats}
 use Rattle.lists.specs.Part.{SamePart}
 use Rattle.refusals.specs.declared.Refusal.{Refusal}
+use Rattle.refusals.specs.Rows.{Exactly}
 use Rattle.numbers.specs.Two.{enc}
 use Rattle.numbers.specs.Bytes.{byteAt, Bytes}
 use Rattle.meaning.specs.Rule.{Rule, Case}
 use Rattle.meaning.specs.Cases.{casesOf, Failing, AllHold, held, failed}
 use Rattle.meaning.specs.CaseOrder.{Earlier, Rising, FirstFailing}
 use Rattle.layout.specs.Limits.{blockBytes}
+use Rattle.layout.specs.Checks.{checkOf, content, storedCheck, Inside}
 use Rattle.layout.specs.WellFormed.{WellFormed}
 use Rattle.layout.specs.Parts.{variableCount, ruleIn, Nameless}
 use Rattle.layout.specs.Sheet.{sheetOf}
 use Rattle.refusals.specs.declared.Reading.{Reading}
 use Rattle.refusals.specs.Said.{saidOf}
 use Rattle.blocks.specs.Block.{BlockPart}
-use Rattle.reading.specs.Name.{NamePart}
 use Rattle.capi.specs.Codes.{CheckCodes, ScriptCodes}
-use Rattle.reading.specs.Rows.{Answer, Accepted}
+use Rattle.reading.specs.Rows.{sheetRows, Accepted}
 use Rattle.reading.specs.Cascade.{refusalOf}
 use Rattle.reading.specs.Lawful.{Allowed}
+use Rattle.reading.specs.Name.{NamePart}
 use Rattle.odometer.specs.Limit.{mostCases, caseCount}
 use Rattle.cases.specs.declared.Checked.{Checked}
 use Rattle.cases.specs.declared.Checked.the-variants.{Holds, Fails, Refused as Checked·Refused}
 use Rattle.cases.specs.declared.Tallied.{Tallied}
 use Rattle.cases.specs.Checks.{tryRefusal, checkRefusal, Checks}
 use Rattle.cases.specs.Tallies.{Tallies}
-use Rattle.cases.specs.Rows.{TallyRow, CheckRow}
+use Rattle.cases.specs.Rows.{tallyRows, checkRows}
 use Rattle.smtlib.specs.Tokens.{numeral}
 use Rattle.smtlib.specs.Values.{bitVec}
 use Rattle.smtlib.specs.Terms.{numberOf}
@@ -49,7 +51,7 @@ use Rattle.wording.proofs.MeansClaims.{WidthHolds}
 use Rattle.writer.specs.declared.Written.{Written}
 use Rattle.writer.specs.declared.Written.the-variants.{Script, Refused}
 use Rattle.writer.specs.Writes.{scriptRefusal, enoughRoom, Writes}
-use Rattle.writer.specs.Rows.{ScriptRow}
+use Rattle.writer.specs.Rows.{scriptRows}
 
 -- an accepted sheet: bytes to which no row of the table of refusals applies
 pub record Sheet (s : List ℕ) : Type 0 where
@@ -58,15 +60,23 @@ pub record Sheet (s : List ℕ) : Type 0 where
 
 -- ---- demand 1: any bytes; exactly the number and place of the table, and nothing refused without that cause
 abbrev pub RefusedExactly : Type 0
-RefusedExactly = (s : List ℕ) → ((r : Refusal) → (refusalOf s ≡ some r) ↔ Answer s r) × ((refusalOf s ≡ none) ↔ Accepted s)
+RefusedExactly = (s : List ℕ) → Exactly (sheetRows s) (refusalOf s)
 
 -- 10 and 9, for the calls that give them: the tally, the check with so many numbers of room, the writer with so many bytes
 abbrev pub CallsRefusedExactly : Type 0
 CallsRefusedExactly =
-    (s : List ℕ) (room : ℕ) (r : Refusal)
-    → ((tryRefusal s ≡ some r) ↔ TallyRow s (r .number) (r .place))
-    × ((checkRefusal s room ≡ some r) ↔ CheckRow s room (r .number) (r .place))
-    × ((scriptRefusal s room ≡ some r) ↔ ScriptRow s room (r .number) (r .place))
+    (s : List ℕ) (room : ℕ) → Exactly (tallyRows s) (tryRefusal s) × Exactly (checkRows s room) (checkRefusal s room) × Exactly (scriptRows s room) (scriptRefusal s room)
+
+-- a name is empty exactly where the sheet is refused or the variable isn't below V; a block's content, where the block isn't wholly inside or its check is wrong
+abbrev pub NameEmpty : Type 0
+NameEmpty =
+    (sheet part : RefT (List ℕ)) (i : ℕ) → NamePart sheet i part
+    → (length (part .now) ≡ 0) ↔ (((r : Refusal) × (refusalOf (sheet .now) ≡ some r)) ⊎ (variableCount (sheet .now) ≤ i))
+
+abbrev pub BlockEmpty : Type 0
+BlockEmpty =
+    (sheet part : RefT (List ℕ)) (k : ℕ) → BlockPart sheet k part
+    → (length (part .now) ≡ 0) ↔ ((Inside (sheet .now) k → ⊥) ⊎ (checkOf k (content (sheet .now) k) ≡ storedCheck (sheet .now) k → ⊥))
 
 -- an accepted sheet is what the layout writes of its rule, and each rule that is allowed has such a sheet
 abbrev pub SheetOfRule : Type 0

@@ -47,7 +47,7 @@ use Rattle.findings.proofs.FindingLaws.{fits-of, fits-true, decides-same}
 use Rattle.nodes.specs.Nodes.{findingAt, nodeRefusal, nodes}
 use Rattle.reading.specs.Cascade.{refusalOf, ruleOf}
 use Rattle.reading.specs.Lawful.{FitsIn, Lawful, Allowed}
-use Rattle.reading.proofs.NodeRows.{typed-true, typed-of}
+use Rattle.reading.proofs.NodeRows.{typed-decided}
 
 -- a name has a byte
 name-long : (s : List ℕ) (i : ℕ) → Name (nameIn s i) → 1 ≤ nameSize s i
@@ -88,11 +88,11 @@ module _ (s : List ℕ) where
   node-right n e =
       let a = neither _ _ e in
       let b = neither _ _ (a .1) in
-      record { placed = placed-of (unless-none _ 6 n (a .0)); typed = typed-true (table s) n (unless-none _ 7 n (b .0)); fits = fits-of (findingAt s n) (unless-none _ 8 n (b .1)) }
+      record { placed = placed-of (unless-none _ 6 n (a .0)); typed = typed-decided (table s) n .0 (unless-none _ 7 n (b .0)); fits = fits-of (findingAt s n) (unless-none _ 8 n (b .1)) }
 
   right-node : (n : ℕ) → NodeRight n → nodeRefusal s n ≡ none
   unfolding nodeRefusal
-  right-node n h = otherwise-none _ (unless-true 6 n (placed-true (h .placed))) ∙ (otherwise-none _ (unless-true 7 n (typed-of (table s) n (h .typed))) ∙ unless-true 8 n (fits-true (findingAt s n) (h .fits)))
+  right-node n h = otherwise-none _ (unless-true 6 n (placed-true (h .placed))) ∙ (otherwise-none _ (unless-true 7 n (typed-decided (table s) n .1 (h .typed))) ∙ unless-true 8 n (fits-true (findingAt s n) (h .fits)))
 
   record NodesRight : Type 0 where
     each : (n : ℕ) → n < nodeCount s → NodeRight n

@@ -1,4 +1,4 @@
--- What document 01, "Variable record", demands of a variable's record, and refusal 5's row, as propositions.
+-- What document 01, "Variable record", demands of a variable's record, as propositions: refusal 5 is that it fails.
 use Prim.Native.Nat.{ℕ, _+_, _≤_, _<_}
 use mathlib.Core.Path.{_≡_}
 use mathlib.Core.List.{List, [], _∷_}
@@ -7,7 +7,7 @@ use lib.ListN.{length}
 use lib.Signed.{_≤ℤ_}
 use Rattle.numbers.specs.Bytes.{byteAt, i16At}
 use Rattle.layout.specs.Limits.{mostNameBytes, nameStart, variablePlace}
-use Rattle.layout.specs.Parts.{variableCount, nameSize, zeroByte, nameIn}
+use Rattle.layout.specs.Parts.{nameSize, zeroByte, nameIn}
 
 -- ASCII: A to Z and a to z; 0 to 9; the underscore
 abbrev pub Letter : ℕ → Type 0
@@ -34,9 +34,3 @@ pub record VariableRule (s : List ℕ) (i : ℕ) : Type 0 where
 -- variable n's record keeps them, and no lower variable has its name
 abbrev pub VariableKept : List ℕ → ℕ → Type 0
 VariableKept s n = VariableRule s (variablePlace n) × ((m : ℕ) → m < n → nameIn s (variablePlace m) ≡ nameIn s (variablePlace n) → ⊥)
-
--- n is the lowest variable of which that fails
-pub record LowestBroken (s : List ℕ) (n : ℕ) : Type 0 where
-  pub below : n < variableCount s
-  pub broken : VariableKept s n → ⊥
-  pub lower : (m : ℕ) → m < n → VariableKept s m
