@@ -12,6 +12,7 @@ pub mod SatisfactionLaws
 pub mod OrderLaws
 pub mod TermData
 pub mod ScriptData
+pub mod DecisionData
 pub mod Running
 pub mod Vectors
 pub mod Decisions

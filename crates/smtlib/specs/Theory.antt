@@ -101,10 +101,10 @@ functions =
     ∷ row "ite" choice ifThenElse
     ∷ row "bvnot" vectors1 bvnot
     ∷ row "bvneg" vectors1 bvneg
-    ∷ row "bvand" (vectors2 two) bvand
-    ∷ row "bvor" (vectors2 two) bvor
-    ∷ row "bvadd" (vectors2 two) bvadd
-    ∷ row "bvmul" (vectors2 two) bvmul
+    ∷ row "bvand" (vectors2 left-assoc) bvand
+    ∷ row "bvor" (vectors2 left-assoc) bvor
+    ∷ row "bvadd" (vectors2 left-assoc) bvadd
+    ∷ row "bvmul" (vectors2 left-assoc) bvmul
     ∷ row "bvsub" (vectors2 two) bvsub
     ∷ row "bvult" (order two) bvult
     ∷ row "bvule" (order two) bvule

@@ -116,11 +116,11 @@ module _ {w v : ℕ} {constant : ℤ → Atom} {name : ℕ → List ℕ} {ρ : �
   means (var i) k l = h .symbols i (l .0 i refl)
   means (minus a) k l = value-vectors1 env (ascii "bvneg") refl _ (means a (k .1) (l .1)) ∙ ap (bits w) (neg-is w (meant ρ a))
   means (sum a b) k l =
-      value-vectors2 env (ascii "bvadd") _ _ refl (means a (k .1 .0) (l .1 .0)) (means b (k .1 .1) (l .1 .1)) ∙ ap (bits w) (add-is w (meant ρ a) (meant ρ b))
+      value-vectors2 env (ascii "bvadd") _ _ _ refl (means a (k .1 .0) (l .1 .0)) (means b (k .1 .1) (l .1 .1)) ∙ ap (bits w) (add-is w (meant ρ a) (meant ρ b))
   means (difference a b) k l =
-      value-vectors2 env (ascii "bvsub") _ _ refl (means a (k .1 .0) (l .1 .0)) (means b (k .1 .1) (l .1 .1)) ∙ ap (bits w) (sub-is w (meant ρ a) (meant ρ b))
+      value-vectors2 env (ascii "bvsub") _ _ _ refl (means a (k .1 .0) (l .1 .0)) (means b (k .1 .1) (l .1 .1)) ∙ ap (bits w) (sub-is w (meant ρ a) (meant ρ b))
   means (product a b) k l =
-      value-vectors2 env (ascii "bvmul") _ _ refl (means a (k .1 .0) (l .1 .0)) (means b (k .1 .1) (l .1 .1)) ∙ ap (bits w) (mul-is w (meant ρ a) (meant ρ b))
+      value-vectors2 env (ascii "bvmul") _ _ _ refl (means a (k .1 .0) (l .1 .0)) (means b (k .1 .1) (l .1 .1)) ∙ ap (bits w) (mul-is w (meant ρ a) (meant ρ b))
   means (ite c a b) k l =
       value-choice env (ascii "ite") _ _ refl _ (bitVec w) _ _ (means c (k .1 .0) (l .1 .0)) (means a (k .1 .1) (l .1 .1)) (means b (k .1 .2) (l .1 .2))
       ∙ ap (bits w) (ite-is w (meant ρ c) (meant ρ a) (meant ρ b))

@@ -100,9 +100,9 @@ module _ (constant : ℤ → Atom) (name : ℕ → List ℕ) (w v : ℕ) (env : 
   kind-sorted Constant x h = constants x
   kind-sorted VariableKind x h = symbols x h
   kind-sorted Minus x h = record { known = _; is = value-vectors1 env _ refl x (h .is) }
-  kind-sorted Sum x h = record { known = _; is = value-vectors2 env _ _ _ refl (h .0 .is) (h .1 .is) }
-  kind-sorted Difference x h = record { known = _; is = value-vectors2 env _ _ _ refl (h .0 .is) (h .1 .is) }
-  kind-sorted Product x h = record { known = _; is = value-vectors2 env _ _ _ refl (h .0 .is) (h .1 .is) }
+  kind-sorted Sum x h = record { known = _; is = value-vectors2 env _ _ _ _ refl (h .0 .is) (h .1 .is) }
+  kind-sorted Difference x h = record { known = _; is = value-vectors2 env _ _ _ _ refl (h .0 .is) (h .1 .is) }
+  kind-sorted Product x h = record { known = _; is = value-vectors2 env _ _ _ _ refl (h .0 .is) (h .1 .is) }
   kind-sorted If x h = record { known = _; is = value-choice env _ _ _ refl _ (bitVec w) _ _ (h .0 .is) (h .1 .is) (h .2 .is) }
 
   abbrev SortedTree : (s : Sort) → Tree s → Type 0
