@@ -1,30 +1,18 @@
 -- S-expressions printed with single spaces are read back as they were, and so are lists of them with a line feed behind each. Assumes nothing.
 use mathlib.Core.Path.{_≡_, refl, sym, ap, _∙_}
-use mathlib.Core.Bool.{true, cond}
+use mathlib.Core.Bool.{true}
 use mathlib.Core.List.{List, [], _∷_, _++_, map, append-assoc, append-nil}
 use mathlib.Core.Option.{some}
-use Prim.Native.Nat.{ℕ, _+_}
+use Prim.Native.Nat.{ℕ}
 use native.Mathlib.Omega.{arith}
-use lib.Dec.{ltb}
 use Rattle.lists.specs.Ascii.{ascii}
 use Rattle.smtlib.specs.Characters.{every, symbolChar, wordChar, letterChar, digitChar, whiteSpace, classOf}
 use Rattle.smtlib.specs.Tokens.{Atom, symbol, reserved, numeral, hexadecimal, binary, keyword, Token, opening, closing, single, outside, tokenOf, step, tokens}
 use Rattle.smtlib.specs.Sexps.{Sexp, atom, nil, cons, snoc, parse, sexpsOf}
+use Rattle.smtlib.specs.Spelling.{spelling, Spelled}
 use Rattle.smtlib.proofs.Reading.{Ends, word-read}
 
 -- ---- printing
-
--- a digit's byte, in lower case
-unfoldable pub digitByte : ℕ → ℕ
-digitByte d = cond (ltb d 10) (48 + d) (87 + d)
-
-abbrev pub spelling : Atom → List ℕ
-spelling (symbol n) = n
-spelling (reserved w) = w
-spelling (numeral ds) = map digitByte ds
-spelling (hexadecimal ds) = 35 ∷ 120 ∷ map digitByte ds
-spelling (binary ds) = 35 ∷ 98 ∷ map digitByte ds
-spelling (keyword w) = 58 ∷ w
 
 abbrev mutual
   pub print : Sexp → List ℕ
@@ -45,11 +33,6 @@ lines nil = []
 lines (cons x s) = print x ++ 10 ∷ lines s
 
 -- ---- what can be printed
-
--- the atom's spelling is one word, which is read as that atom
-pub record Spelled (a : Atom) : Type 0 where
-  pub word : every wordChar (spelling a) ≡ true
-  pub reads : tokenOf (spelling a) ≡ single a
 
 -- every atom is so spelled, and every list ends in nil
 abbrev mutual

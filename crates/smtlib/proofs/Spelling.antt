@@ -12,7 +12,7 @@ use Rattle.lists.specs.Places.{allBelow}
 use Rattle.lists.proofs.TestLaws.{both, and, all-true}
 use Rattle.smtlib.specs.Characters.{every, letterChar, digitChar, symbolChar, wordChar}
 use Rattle.smtlib.specs.Tokens.{symbol, reserved, numeral, hexadecimal, binary, keyword, listed, reservedWords, digitValue, digits, simple, number, leadingZero, plainWord, tokenOf}
-use Rattle.smtlib.proofs.Printing.{digitByte, Spelled}
+use Rattle.smtlib.specs.Spelling.{digitByte, Spelled}
 
 -- ---- names
 

@@ -18,7 +18,8 @@ use Rattle.smtlib.specs.Commands.{logics}
 use Rattle.smtlib.specs.Settings.{environment}
 use Rattle.smtlib.specs.Scripts.{Script, scriptIn}
 use Rattle.smtlib.specs.Satisfaction.{andThen, scriptOf, declared, wellFormed, isTrue, allTrue, Satisfies, satisfiedBy}
-use Rattle.smtlib.proofs.Printing.{digitByte, lines, Spelled, Listing, lines-sexps}
+use Rattle.smtlib.specs.Spelling.{digitByte, Spelled}
+use Rattle.smtlib.proofs.Printing.{lines, Listing, lines-sexps}
 use Rattle.smtlib.proofs.Spelling.{spelled-symbol, spelled-reserved, spelled-hexadecimal, spelled-numeral}
 use Rattle.smtlib.proofs.TermLaws.{value-symbol, value-hexadecimal, value-order}
 use Rattle.smtlib.proofs.SortLaws.{sort-formula}

@@ -1,12 +1,9 @@
--- What is asked of each tree in a tree so that its s-expression means what the tree does. Assumes nothing.
-use mathlib.Core.Path.{_≡_, subst}
-use Prim.Native.Nat.{ℕ, _<_}
-use lib.IntN.{ℤ}
-use Rattle.numbers.specs.Two.{Within}
+-- In a tree that has a place in a sheet of v variables, each variable is one of them. Assumes nothing.
+use mathlib.Core.Path.{subst}
+use Prim.Native.Nat.{ℕ}
 use Rattle.meaning.specs.declared.Sort.{Sort}
 use Rattle.meaning.specs.declared.Sort.the-variants.{Truth, Integer}
-use Rattle.meaning.specs.Tree.{Tree, var}
-use Rattle.meaning.specs.Value.{value}
+use Rattle.meaning.specs.Tree.{Tree}
 use Rattle.kinds.specs.declared.Shape.{Shape}
 use Rattle.kinds.specs.declared.Shape.the-variants.{Wrong, Bare, Valued, Named, One, Two, Three}
 use Rattle.kinds.specs.Kinds.{row}
@@ -14,18 +11,8 @@ use Rattle.kinds.specs.Rows.{Args, Each, by-rows, Throughout}
 use Rattle.kinds.proofs.ClaimLaws.{Parts, throughout-make}
 use Rattle.layout.specs.WellFormed.{Fine}
 use Rattle.layout.proofs.Made.{FineMade, fine-make}
+use Rattle.forms.specs.Width.{Below}
 
--- where variable i has the value ρ i, an integer is one of w bits: no operator wraps
-abbrev pub NoWrap : ℕ → (ℕ → ℤ) → (s : Sort) → Tree s → Type 0
-NoWrap w ρ Truth t = Unit {0}
-NoWrap w ρ Integer t = Within w (value ρ t)
-
--- a variable is one of the first v
-abbrev pub Below : ℕ → (s : Sort) → Tree s → Type 0
-Below v Truth t = Unit {0}
-Below v Integer t = (i : ℕ) → t ≡ var i → i < v
-
--- ---- in a tree that has a place in a sheet of v variables, each variable is one of them
 module _ (v : ℕ) where
   below-of : (s : Sort) (t : Tree s) → Fine v t → Below v s t
   unfolding Fine by-rows

@@ -15,10 +15,11 @@ use Rattle.meaning.specs.Cases.{Failing}
 use Rattle.smtlib.specs.Tokens.{Atom}
 use Rattle.smtlib.specs.Terms.{numberOf}
 use Rattle.smtlib.specs.Satisfaction.{Meets}
-use Rattle.wording.proofs.Sexps.{asked}
-use Rattle.wording.proofs.Read.{Texts}
-use Rattle.wording.proofs.MeansSettings.{Integers, encs-inj, fits-exactly, holding}
-use Rattle.wording.proofs.MeansClaims.{WidthHolds, claims-exactly}
+use Rattle.forms.specs.Form.{Texts}
+use Rattle.forms.specs.Width.{WidthHolds}
+use Rattle.forms.proofs.Sexps.{asked}
+use Rattle.forms.proofs.MeansSettings.{Integers, encs-inj, fits-exactly, holding}
+use Rattle.forms.proofs.MeansClaims.{claims-exactly}
 
 in-within : {w : ℕ} {d : Range} {x : ℤ} → Within w (d .low) → Within w (d .high) → In d x → Within w x
 in-within f g m = omega zed

@@ -14,9 +14,10 @@ use Rattle.smtlib.specs.Values.{bits}
 use Rattle.smtlib.specs.Terms.{numberOf}
 use Rattle.smtlib.specs.Settings.{Fits, environment}
 use Rattle.smtlib.proofs.TermLaws.{value-symbol}
-use Rattle.wording.proofs.Sexps.{declares}
-use Rattle.wording.proofs.Read.{Texts, symbol-stands}
-use Rattle.wording.proofs.Means.{Holding}
+use Rattle.forms.specs.Form.{Texts}
+use Rattle.forms.proofs.Sexps.{declares}
+use Rattle.forms.proofs.Read.{free, symbol-stands}
+use Rattle.forms.proofs.Means.{Holding}
 
 -- v integers of w bits
 pub record Integers (w v : ℕ) (c : List ℤ) : Type 0 where
@@ -77,7 +78,7 @@ holding {constant} {name} {width} {m} texts vs few c e =
     record {
       constants = λ z k. texts .constants _ z;
       symbols = λ i l.
-          value-symbol _ (name i) (texts .free i)
+          value-symbol _ (name i) (free texts i)
           ∙ symbol-stands constant name width m texts vs few (map (enc w) c) (length-map c (enc w) ∙ e) i l
           ∙ ap (bits w) (encs-at w c i (omega (arith, e)));
     }

@@ -25,13 +25,14 @@ use Rattle.layout.proofs.Made.{foundMade, found-make}
 use Rattle.smtlib.specs.Characters.{every, letterChar, digitChar, symbolChar}
 use Rattle.smtlib.specs.Tokens.{Atom, symbol, numeral, reservedWords, simple}
 use Rattle.smtlib.specs.Sexps.{Sexp, nil, cons}
-use Rattle.smtlib.proofs.Printing.{digitByte, spelling, print, lines, Spelled, Printable, Listing}
+use Rattle.smtlib.specs.Spelling.{digitByte, spelling, Spelled}
+use Rattle.smtlib.proofs.Printing.{print, lines, Printable, Listing}
 use Rattle.smtlib.proofs.Spelling.{spelled-symbol, spelled-reserved, spelled-numeral, spelled-hexadecimal}
 use Rattle.wording.specs.Words.{wordOf}
 use Rattle.wording.specs.Text.{textBy, textStep, text}
 use Rattle.wording.specs.Sixteen.{hexDigit, hexText, literal, symbolText}
 use Rattle.wording.specs.Script.{claims, declaration, declarations, assertion, linesOf, joined}
-use Rattle.wording.proofs.Sexps.{sexpBy, sexpStep, sexp, declareSexp, declareChain, assertChain, chainOf, constant16, width16}
+use Rattle.forms.proofs.Sexps.{sexpBy, sexpStep, sexp, declareSexp, declareChain, assertChain, chainOf, constant16, width16}
 
 -- ---- words
 

@@ -14,10 +14,11 @@ use Rattle.kinds.specs.Rows.{Throughout}
 use Rattle.layout.specs.WellFormed.{WellFormed}
 use Rattle.smtlib.specs.Terms.{numberOf}
 use Rattle.smtlib.specs.Satisfaction.{Satisfies}
-use Rattle.wording.proofs.Forms.{Form, scriptBy, form-satisfied}
-use Rattle.wording.proofs.MeansTrees.{NoWrap, fine-below}
-use Rattle.wording.proofs.MeansClaims.{WidthHolds}
-use Rattle.wording.proofs.MeansMatch.{meets-exactly}
+use Rattle.forms.specs.Form.{Form, scriptBy}
+use Rattle.forms.specs.Width.{NoWrap, WidthHolds}
+use Rattle.forms.proofs.Forms.{form-satisfied}
+use Rattle.forms.proofs.MeansTrees.{fine-below}
+use Rattle.forms.proofs.MeansMatch.{meets-exactly}
 
 -- a setting satisfies the script exactly where it is a failing case's
 pub form-means : {literal : ℤ → List ℕ} {name : ℕ → List ℕ} {digits : List ℕ} {m : ℕ} → Form literal name digits m → (r : Rule) → length (r .variables) ≤ m → WellFormed r → WidthHolds (numberOf 10 digits) r

@@ -1,9 +1,9 @@
 -- SMT-LIB accepts the script of a well-formed rule, as its declarations, its ranges and its negated goal. Assumes nothing.
 use Prim.Native.Nat.{ℕ, zero, suc, _+_, _-_, _*_, _/_, _%_, _≤_, _<_}
 use mathlib.Core.Path.{_≡_, refl, sym, ap, _∙_}
-use mathlib.Core.Bool.{Bool, true, false}
+use mathlib.Core.Bool.{Bool, true, false, _||_, true≢false}
 use mathlib.Core.List.{List, [], _∷_, _++_, map, append-assoc, append-nil}
-use mathlib.Core.Option.{none, some}
+use mathlib.Core.Option.{Option, none, some}
 use native.Mathlib.Omega.{arith}
 use lib.Dec.{eqb, lit≤}
 use lib.IntN.{ℤ}
@@ -28,21 +28,22 @@ use Rattle.kinds.specs.Rows.{Args, make, Known, Each, by-rows}
 use Rattle.layout.specs.Fold.{Found, ofTree}
 use Rattle.layout.specs.WellFormed.{FineVariable, Fine, WellFormed}
 use Rattle.layout.proofs.Made.{FineMade, foundMade, fine-make, found-make}
-use Rattle.smtlib.specs.Tokens.{Atom, symbol, same}
+use Rattle.smtlib.specs.Tokens.{Atom, symbol, same, listed}
 use Rattle.smtlib.specs.Sexps.{Sexp, atom}
 use Rattle.smtlib.specs.Values.{Sort as SmtSort, bool, bitVec, Val, bits, sorted}
-use Rattle.smtlib.specs.Theory.{functions, otherNames, function, theoryName}
+use Rattle.smtlib.specs.Theory.{Row, functions, otherNames, function, found, theoryName}
 use Rattle.smtlib.specs.Terms.{Environment, numberOf, value}
 use Rattle.smtlib.specs.Commands.{Declaration, declareFun, logics, commandOf}
 use Rattle.smtlib.specs.Settings.{environment, zeros}
-use Rattle.smtlib.specs.Scripts.{solverName, isDeclared, formula, gather, scriptIn}
+use Rattle.smtlib.specs.Scripts.{isDeclared, formula, gather, scriptIn}
 use Rattle.smtlib.proofs.NameLaws.{same-is, same-self, stands-here, stands-later}
 use Rattle.smtlib.proofs.TermLaws.{call1, call2, call3, value-symbol, value-hexadecimal, value-constant, value-truths1, value-vectors1, value-left, value-right, value-relation, value-vectors2, value-order, value-choice}
 use Rattle.smtlib.proofs.CommandLaws.{logic-read, declare-read, assert-read, check-read, exit-read, vector-read, begins, declares-next, asserts-next, asks-next, exits, declared-append, fresh-name}
 use Rattle.wording.specs.Words.{wordOf}
 use Rattle.wording.specs.Sixteen.{symbolText}
 use Rattle.wording.specs.Script.{claims}
-use Rattle.wording.proofs.Sexps.{sexpStep, sexp, declareSexp, declareChain, assertChain, chainOf, declares, asked, hexDigits, constant16, width16}
+use Rattle.forms.specs.Form.{Texts}
+use Rattle.forms.proofs.Sexps.{sexpStep, sexp, declareSexp, declareChain, assertChain, chainOf, declares, asked, hexDigits, constant16, width16}
 
 -- ---- the claims are as fine as the rule
 abbrev pub AllFine : ℕ → List (Tree Truth) → Type 0
@@ -125,16 +126,17 @@ module _ (constant : ℤ → Atom) (name : ℕ → List ℕ) (w v : ℕ) (env : 
 
 -- ---- the script's commands, for up to m variables
 
--- what the texts of constants, of variables and of the width must be
-pub record Texts (constant : ℤ → Atom) (name : ℕ → List ℕ) (width : List ℕ) (m : ℕ) : Type 0 where
-  pub some-bits : 1 ≤ numberOf 10 width
-  -- a constant is read in two's complement
-  pub constants : (env : Environment) (z : ℤ) → value env (atom (constant z)) ≡ bits (numberOf 10 width) (enc (numberOf 10 width) z)
-  -- a name is none of a theory's and none that is left to solvers, and no two are the same
-  pub free : (i : ℕ) → function (name i) ≡ none
-  pub theory : (i : ℕ) → theoryName (name i) ≡ false
-  pub solver : (i : ℕ) → solverName (name i) ≡ false
-  pub distinct : (i j : ℕ) → i < m → j < m → name i ≡ name j → i ≡ j
+-- a name that is none of the theories' names none of their functions
+unnamed : (n : List ℕ) → theoryName n ≡ false → function n ≡ none
+unfolding theoryName
+unnamed n e = by (function n) (listed otherNames n) e
+  where
+    by : (o : Option Row) (b : Bool) → found o || b ≡ false → o ≡ none
+    by none b e = refl
+    by (some r) b e = absurd (true≢false e)
+
+pub free : {constant : ℤ → Atom} {name : ℕ → List ℕ} {digits : List ℕ} {m : ℕ} → Texts constant name digits m → (i : ℕ) → function (name i) ≡ none
+free {name} texts i = unnamed (name i) (texts .theory i)
 
 module _ (constant : ℤ → Atom) (name : ℕ → List ℕ) (width : List ℕ) (m : ℕ) (texts : Texts constant name width m) where
   abbrev size : ℕ
@@ -199,7 +201,7 @@ module _ (constant : ℤ → Atom) (name : ℕ → List ℕ) (width : List ℕ) 
     pub setting-sorted : (s : List ℕ) → length s ≡ length vs → {k : Sort} (t : Tree k) → Fine (length vs) t → Has (environment ds s) (sortFor size k) (sexp constant name t)
     setting-sorted s l t f =
         tree-sorted constant name size (length vs) (environment ds s) (λ z. record { known = _; is = texts .constants (environment ds s) z })
-        (λ i h. record { known = _; is = value-symbol (environment ds s) (name i) (texts .free i) ∙ symbol-stands vs few s l i h }) t f
+        (λ i h. record { known = _; is = value-symbol (environment ds s) (name i) (free texts i) ∙ symbol-stands vs few s l i h }) t f
 
     is-formula : (t : Tree Truth) → Fine (length vs) t → formula ds (sexp constant name t) ≡ true
     unfolding formula
@@ -300,7 +302,6 @@ unfolding symbolText function functions theoryName otherNames
 texts16 = record {
   some-bits = lit≤ tt;
   constants = constant16-value;
-  free = λ i. refl;
   theory = λ i. refl;
   solver = λ i. refl;
   distinct = symbol-distinct;

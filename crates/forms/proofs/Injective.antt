@@ -30,14 +30,14 @@ use Rattle.smtlib.specs.Terms.{numberOf}
 use Rattle.smtlib.specs.Scripts.{Script}
 use Rattle.smtlib.specs.Satisfaction.{scriptOf}
 use Rattle.smtlib.proofs.Printing.{print-sexp}
 use Rattle.wording.specs.Words.{wordOf}
 use Rattle.wording.specs.Text.{text}
 use Rattle.wording.specs.Sixteen.{literal, symbolText}
 use Rattle.wording.specs.Script.{claims, script}
-use Rattle.wording.proofs.Sexps.{sexpBy, sexpStep, sexp, hexDigits, constant16, asked16}
-use Rattle.wording.proofs.Spelt.{text16-printed, printable16}
-use Rattle.wording.proofs.Read.{AllFine, claims-fine, hex-number, numberIn, symbol-number}
-use Rattle.wording.proofs.Forms.{script-read}
+use Rattle.forms.proofs.Sexps.{sexpBy, sexpStep, sexp, hexDigits, constant16, asked16}
+use Rattle.forms.proofs.Spelt.{text16-printed, printable16}
+use Rattle.forms.proofs.Read.{AllFine, claims-fine, hex-number, numberIn, symbol-number}
+use Rattle.forms.proofs.Forms.{script-read}
 
 -- ---- the tree that a term spells
 
