@@ -3,20 +3,21 @@ use Prim.Native.Nat.{ℕ, suc, _≤_}
 use mathlib.Core.Path.{_≡_, refl, ap, _∙_}
 use mathlib.Core.Logic.{_↔_}
 use mathlib.Core.List.{List, [], _∷_}
-use mathlib.Core.Option.{some}
+use mathlib.Core.Option.{Option, some}
 use native.Mathlib.Omega.{arith}
 use lib.IntN.{ℤ}
 use lib.ListN.{length}
 use Rattle.lists.specs.Places.{from}
 use Rattle.meaning.specs.Rule.{Variable, Rule}
 use Rattle.layout.specs.WellFormed.{WellFormed}
+use Rattle.lists.specs.First.{andThen}
 use Rattle.smtlib.specs.Tokens.{Atom}
 use Rattle.smtlib.specs.Sexps.{sexpsOf}
 use Rattle.smtlib.specs.Values.{bitVec}
 use Rattle.smtlib.specs.Commands.{Declaration}
 use Rattle.smtlib.specs.Terms.{numberOf}
 use Rattle.smtlib.specs.Scripts.{Script, scriptIn}
-use Rattle.smtlib.specs.Satisfaction.{andThen, scriptOf, declaredBy, declared, Meets, Satisfies}
+use Rattle.smtlib.specs.Satisfaction.{scriptOf, declared, Meets, Satisfies}
 use Rattle.smtlib.specs.Spelling.{digitByte}
 use Rattle.smtlib.proofs.Printing.{lines-sexps}
 use Rattle.smtlib.proofs.SatisfactionLaws.{satisfies-read}
@@ -48,7 +49,7 @@ module _ {literal : ℤ → List ℕ} {name : ℕ → List ℕ} {digits : List �
   -- so it declares a symbol for each variable
   pub form-declares : declared (scriptBy literal name digits r) ≡ some (from (λ i. record { name = name i; sort = bitVec (numberOf 10 digits) }) 0 (length (r .variables)))
   unfolding declared
-  form-declares = ap declaredBy form-read ∙ ap some (declares-from (form .constant) name (numberOf 10 digits) 0 (r .variables))
+  form-declares = ap (λ (o : Option Script). andThen o (λ p. some (p .declares))) form-read ∙ ap some (declares-from (form .constant) name (numberOf 10 digits) 0 (r .variables))
 
   -- and a setting satisfies it exactly if it meets what is said
   pub form-satisfied : (setting : List ℕ) → Satisfies (scriptBy literal name digits r) setting ↔ Meets says setting

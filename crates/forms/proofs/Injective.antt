@@ -24,7 +24,8 @@ use Rattle.layout.specs.WellFormed.{Fine, WellFormed}
 use Rattle.layout.specs.Goal.{SomeTree, ofSort}
 use Rattle.layout.proofs.Made.{FineMade, foundMade, fine-make, found-make}
 use Rattle.layout.proofs.Agree.{Alike}
-use Rattle.smtlib.specs.Tokens.{Atom, symbol, reserved, numeral, hexadecimal, binary, keyword, same}
+use Rattle.lists.specs.Names.{sameBytes}
+use Rattle.smtlib.specs.Tokens.{Atom, symbol, reserved, numeral, hexadecimal, binary, keyword}
 use Rattle.smtlib.specs.Sexps.{Sexp, atom, nil, cons, symbolIn, sexpsOf}
 use Rattle.smtlib.specs.Terms.{numberOf}
 use Rattle.smtlib.specs.Scripts.{Script}
@@ -63,7 +64,7 @@ sameSort (some Integer) (some Integer) = true
 -- the first of these kinds with this word and this first operand; a variable where there is none
 abbrev kindIn : List Kind → List ℕ → Option Sort → Kind
 kindIn [] w o = VariableKind
-kindIn (k ∷ ks) w o = elim (same (wordOf k) w && sameSort (firstOf (row k .shape)) o) [ true ↦ k | false ↦ kindIn ks w o ]
+kindIn (k ∷ ks) w o = elim (sameBytes (wordOf k) w && sameSort (firstOf (row k .shape)) o) [ true ↦ k | false ↦ kindIn ks w o ]
 
 -- what a term may be read from: an integer, a variable's number, and operands
 abbrev Parts : Type 0
@@ -125,7 +126,7 @@ kindRead (Three s t u) w x = kindIn kinds w (some s)
 
 -- no two kinds have the same word and the same first operand
 kind-read : (k : Kind) (x : Args (row k .shape)) → kindRead (row k .shape) (wordOf k) x ≡ k
-unfolding wordOf symbolText
+unfolding sameBytes wordOf symbolText
 kind-read Unknown x = refl
 kind-read True x = refl
 kind-read False x = refl

@@ -1,17 +1,19 @@
 -- SMT-LIB accepts the script of a well-formed rule, as its declarations, its ranges and its negated goal. Assumes nothing.
 use Prim.Native.Nat.{ℕ, zero, suc, _+_, _-_, _*_, _/_, _%_, _≤_, _<_}
 use mathlib.Core.Path.{_≡_, refl, sym, ap, _∙_}
-use mathlib.Core.Bool.{Bool, true, false, _||_, true≢false}
+use mathlib.Core.Bool.{Bool, true, false}
 use mathlib.Core.List.{List, [], _∷_, _++_, map, append-assoc, append-nil}
-use mathlib.Core.Option.{Option, none, some}
+use mathlib.Core.Option.{none, some}
 use native.Mathlib.Omega.{arith}
 use lib.Dec.{eqb, lit≤}
 use lib.IntN.{ℤ}
 use lib.ListN.{length, getD}
 use borrow.Author.Tests.{eqb-true}
 use Rattle.lists.specs.Ascii.{ascii}
+use Rattle.lists.specs.Names.{sameBytes}
 use Rattle.lists.specs.Places.{allBelow}
 use Rattle.lists.proofs.TestLaws.{all-true}
+use Rattle.lists.proofs.NameLaws.{same-decided}
 use Rattle.numbers.specs.declared.Range.{Range}
 use Rattle.numbers.specs.Two.{enc}
 use Rattle.numbers.proofs.Bytes16.{enc16-lt}
@@ -28,17 +30,17 @@ use Rattle.kinds.specs.Rows.{Args, make, Known, Each, by-rows}
 use Rattle.layout.specs.Fold.{Found, ofTree}
 use Rattle.layout.specs.WellFormed.{FineVariable, Fine, WellFormed}
 use Rattle.layout.proofs.Made.{FineMade, foundMade, fine-make, found-make}
-use Rattle.smtlib.specs.Tokens.{Atom, symbol, same, listed}
+use Rattle.smtlib.specs.Tokens.{Atom, symbol}
 use Rattle.smtlib.specs.Sexps.{Sexp, atom}
 use Rattle.smtlib.specs.Values.{Sort as SmtSort, bool, bitVec, Val, bits, sorted}
-use Rattle.smtlib.specs.Theory.{Row, functions, otherNames, function, found, theoryName}
+use Rattle.smtlib.specs.Theory.{functions, otherNames, function, theoryName}
 use Rattle.smtlib.specs.Terms.{Environment, numberOf, value}
-use Rattle.smtlib.specs.Commands.{Declaration, declareFun, logics, commandOf}
+use Rattle.smtlib.specs.Commands.{Declaration, declareFun, commandOf}
 use Rattle.smtlib.specs.Settings.{environment, zeros}
-use Rattle.smtlib.specs.Scripts.{isDeclared, formula, gather, scriptIn}
-use Rattle.smtlib.proofs.NameLaws.{same-is, same-self, stands-here, stands-later}
+use Rattle.smtlib.specs.Scripts.{isDeclared, formula, gather, setsLogic, scriptIn}
+use Rattle.smtlib.proofs.NameLaws.{no-function, stands-here, stands-later}
 use Rattle.smtlib.proofs.TermLaws.{call1, call2, call3, value-symbol, value-hexadecimal, value-constant, value-truths1, value-vectors1, value-left, value-right, value-relation, value-vectors2, value-order, value-choice}
-use Rattle.smtlib.proofs.CommandLaws.{logic-read, declare-read, assert-read, check-read, exit-read, vector-read, begins, declares-next, asserts-next, asks-next, exits, declared-append, fresh-name}
+use Rattle.smtlib.proofs.CommandLaws.{declare-read, assert-read, check-read, exit-read, vector-read, begins, declares-next, asserts-next, asks-next, exits, declared-append, fresh-name}
 use Rattle.wording.specs.Words.{wordOf}
 use Rattle.wording.specs.Sixteen.{symbolText}
 use Rattle.wording.specs.Script.{claims}
@@ -86,7 +88,7 @@ module _ (constant : ℤ → Atom) (name : ℕ → List ℕ) (w v : ℕ) (env : 
 
   -- each word's function takes and gives what the kind's row says
   kind-sorted : (k : Kind) (x : Found Sexp (row k .shape)) → Operands (row k .shape) x → Has env (sortFor w (row k .gives)) (sexpStep constant name k x)
-  unfolding wordOf function functions
+  unfolding sameBytes wordOf function functions
   kind-sorted Unknown x h = absurd h
   kind-sorted True x h = record { known = _; is = value-constant env _ refl }
   kind-sorted False x h = record { known = _; is = value-constant env _ refl }
@@ -126,17 +128,9 @@ module _ (constant : ℤ → Atom) (name : ℕ → List ℕ) (w v : ℕ) (env : 
 
 -- ---- the script's commands, for up to m variables
 
--- a name that is none of the theories' names none of their functions
-unnamed : (n : List ℕ) → theoryName n ≡ false → function n ≡ none
-unfolding theoryName
-unnamed n e = by (function n) (listed otherNames n) e
-  where
-    by : (o : Option Row) (b : Bool) → found o || b ≡ false → o ≡ none
-    by none b e = refl
-    by (some r) b e = absurd (true≢false e)
-
+-- a name names no function
 pub free : {constant : ℤ → Atom} {name : ℕ → List ℕ} {digits : List ℕ} {m : ℕ} → Texts constant name digits m → (i : ℕ) → function (name i) ≡ none
-free {name} texts i = unnamed (name i) (texts .theory i)
+free {name} texts i = no-function (name i) (texts .theory i)
 
 module _ (constant : ℤ → Atom) (name : ℕ → List ℕ) (width : List ℕ) (m : ℕ) (texts : Texts constant name width m) where
   abbrev size : ℕ
@@ -145,13 +139,13 @@ module _ (constant : ℤ → Atom) (name : ℕ → List ℕ) (width : List ℕ) 
   abbrev declaredAt : ℕ → Declaration
   declaredAt i = record { name = name i; sort = bitVec size }
 
-  apart : {i j : ℕ} → i < j → j < m → same (name i) (name j) ≡ false
-  apart {i} {j} l h = by (same (name i) (name j)) refl
+  apart : {i j : ℕ} → i < j → j < m → sameBytes (name i) (name j) ≡ false
+  apart {i} {j} l h = by (sameBytes (name i) (name j)) refl
     where
-      by : (b : Bool) → same (name i) (name j) ≡ b → b ≡ false
+      by : (b : Bool) → sameBytes (name i) (name j) ≡ b → b ≡ false
       by false e = refl
       by true e =
-          let d : i ≡ j = texts .distinct i j (omega arith) h (same-is (name i) (name j) e) in
+          let d : i ≡ j = texts .distinct i j (omega arith) h (same-decided (name i) (name j) .0 e) in
           absurd (omega arith)
 
   stands-from : (i : ℕ) (vs : List Variable) (s : List ℕ) (j k : ℕ) → k ≡ i + j → i + length vs ≤ m → length s ≡ length vs → j < length vs
@@ -160,7 +154,7 @@ module _ (constant : ℤ → Atom) (name : ℕ → List ℕ) (width : List ℕ) 
   stands-from i (v ∷ vs) [] j k e b l h = absurd (omega arith)
   stands-from i (v ∷ vs) (n ∷ s) zero k e b l h =
       let d : k ≡ i = omega arith in
-      stands-here (declaredAt i) (declares constant name size (suc i) vs) n s (name k) (rw d (same-self (name i)))
+      stands-here (declaredAt i) (declares constant name size (suc i) vs) n s (name k) (rw d (same-decided (name i) (name i) .1 refl))
   stands-from i (v ∷ vs) (n ∷ s) (suc j) k e b l h =
       stands-later (declaredAt i) (declares constant name size (suc i) vs) n s (name k) (apart (omega arith) (omega arith))
       ∙ stands-from (suc i) vs s j k (omega arith) (omega arith) (omega arith) (omega arith)
@@ -217,9 +211,9 @@ module _ (constant : ℤ → Atom) (name : ℕ → List ℕ) (width : List ℕ) 
 
   -- ---- the whole
   pub chain-read : (r : Rule) → length (r .variables) ≤ m → WellFormed r → scriptIn (chainOf constant name width r) ≡ some (asked constant name size r)
-  unfolding logics
+  unfolding sameBytes setsLogic
   chain-read r few f =
-      begins _ _ (logic-read (ascii "QF_UFBV") refl)
+      begins _ _ refl
       ∙ all-declared [] 0 (r .variables) _ (λ j l h. refl) (omega arith)
       ∙ all-asserted (r .variables) few [] (claims 0 (r .variables) (r .goal)) _ (claims-fine r f)
       ∙ asks-next _ _ false _ _ check-read
@@ -298,7 +292,7 @@ pub symbol-distinct : (i j : ℕ) → i < 100 → j < 100 → symbolText i ≡ s
 symbol-distinct i j h k e = sym (symbol-number i h) ∙ ap numberIn e ∙ symbol-number j k
 
 pub texts16 : Texts constant16 symbolText width16 100
-unfolding symbolText function functions theoryName otherNames
+unfolding sameBytes symbolText functions theoryName otherNames
 texts16 = record {
   some-bits = lit≤ tt;
   constants = constant16-value;

@@ -15,7 +15,8 @@ use Rattle.refusals.proofs.SaidLaws.{unless-none, unless-true, unless-false, un
 use Rattle.records.specs.Variables.{variableRight, fresh, variableRefusal, variables}
 use Rattle.records.specs.Names.{VariableKept, LowestBroken}
 use Rattle.lists.proofs.Decided.{Decides, denied, decides-not, decides-and, decides-all}
-use Rattle.records.proofs.NameLaws.{same-decided, variable-decided}
+use Rattle.lists.proofs.NameLaws.{same-decided}
+use Rattle.records.proofs.NameLaws.{variable-decided}
 
 -- refusal 5 at place n
 abbrev pub refusal5 : ℕ → Refusal

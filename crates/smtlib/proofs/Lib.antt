@@ -8,6 +8,7 @@ pub mod CommandLaws
 pub mod Acceptance
 pub mod DigitLaws
 pub mod Bounds
+pub mod Tests
 pub mod SatisfactionLaws
 pub mod OrderLaws
 pub mod TermData

@@ -1,6 +1,6 @@
 -- The values of atoms and applications, by the signature of the function and the sorts of its arguments. Assumes nothing.
-use mathlib.Core.Path.{_≡_, refl, _∙_}
-use mathlib.Core.Bool.{Bool}
+use mathlib.Core.Path.{_≡_, refl, ap, _∙_}
+use mathlib.Core.Bool.{Bool, true, false}
 use mathlib.Core.List.{List, [], _∷_}
 use mathlib.Core.Option.{none, some}
 use Prim.Native.Nat.{ℕ, _*_}
@@ -8,7 +8,7 @@ use lib.ListN.{length}
 use borrow.Author.Tests.{eq-eqb}
 use Rattle.smtlib.specs.Tokens.{symbol, hexadecimal, binary}
 use Rattle.smtlib.specs.Sexps.{Sexp, atom, nil, cons}
-use Rattle.smtlib.specs.Values.{Sort, bool, bitVec, Val, Value, truth, bits, sorted, onWidth, onSort}
+use Rattle.smtlib.specs.Values.{Sort, bool, bitVec, Val, Value, truth, bits, rejected, sorted, onWidth, onSort}
 use Rattle.smtlib.specs.Theory.{Attribute, two, left-assoc, right-assoc, chained, pairs, Signature, constant, truths1, truths2, relation, choice, vectors1, vectors2, order, Meaning, byAttribute, function}
 use Rattle.smtlib.specs.Terms.{Environment, numberOf, atomValue, value}
 
@@ -24,11 +24,11 @@ call3 n a b c = cons (atom (symbol n)) (cons a (cons b (cons c nil)))
 
 -- the table has this function under this name
 abbrev pub Means : List ℕ → (g : Signature) → Meaning g → Type 0
-Means n g f = function n ≡ some (record { name = n; signature = g; meaning = f })
+Means n g f = function n ≡ some (record { signature = g; meaning = f })
 
 -- ---- arguments of one width, and of one sort
 pub one-width : (f : ℕ → ℕ → ℕ → Value) (m s t : ℕ) → onWidth f (bits m s) (bits m t) ≡ f m s t
-one-width f m s t = rw (eq-eqb m m refl, onWidth)
+one-width f m s t = ap (λ (q : Bool). elim q as (λ _. Value) [ true ↦ f m s t | false ↦ rejected ]) (eq-eqb m m refl)
 
 pub one-sort : (f : (s : Sort) → Val s → Val s → Value) (s : Sort) (x y : Val s) → onSort f (sorted s x) (sorted s y) ≡ f s x y
 one-sort f bool x y = refl
