@@ -30,8 +30,9 @@ parse around read (wrong ∷ ts) = none
 unfoldable pub sexpsOf : List ℕ → Option Sexp
 sexpsOf bytes = parse [] nil (tokens (outside []) bytes)
 
--- ---- what an s-expression is, if it is a symbol, a reserved word or a numeral
+-- ---- what an s-expression is
 
+-- what s, r or n makes of a symbol, a reserved word or a numeral; d of anything else
 abbrev pub byKind : {A : Type 0} → A → (List ℕ → A) → (List ℕ → A) → (List ℕ → A) → Sexp → A
 byKind d s r n (atom (symbol w)) = s w
 byKind d s r n (atom (reserved w)) = r w
@@ -51,7 +52,7 @@ reservedIn e = byKind none (λ w. none) some (λ ds. none) e
 abbrev pub numeralIn : Sexp → Option (List ℕ)
 numeralIn e = byKind none (λ w. none) (λ w. none) some e
 
--- ---- what a list has; an atom stands for itself
+-- what a list has; an atom is taken for a list of itself, so that it is never the empty one
 abbrev pub items : Sexp → List Sexp
 items (atom a) = atom a ∷ []
 items nil = []

@@ -32,6 +32,7 @@ sorted (bitVec m) n = bits m n
 
 -- ---- arguments of the right sorts: Bool, bit vectors of one width, or two of one sort
 
+-- what f makes of a truth value, or of a bit vector's width and number; any other value is rejected
 abbrev pub asTruth : (Bool → Value) → Value → Value
 asTruth f (truth a) = f a
 asTruth f (bits m s) = rejected
