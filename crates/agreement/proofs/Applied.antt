@@ -11,6 +11,7 @@ use denote.Ref.{RefT}
 use lib.Dec.{lit≤}
 use lib.IntN.{ℤ, pos, negsuc}
 use lib.ListN.{length, set, take, drop}
+use Rattle.lists.specs.Ascii.{ascii}
 use Rattle.lists.specs.Places.{allBelow}
 use Rattle.lists.specs.Course.{below, course}
 use Rattle.lists.specs.First.{first}
@@ -35,7 +36,8 @@ use Rattle.refusals.specs.Rows.{Answered}
 use Rattle.blocks.specs.Block.{BlockPart}
 use Rattle.blocks.specs.Early.{lengthRight, early}
 use Rattle.header.specs.Header.{zeros, countsRight, tailClear, outsideClear, header}
-use Rattle.records.specs.Variables.{isLetter, isNameByte, allNameBytes, nameRight, sameBytes, variableRight, fresh}
+use Rattle.lists.specs.Names.{sameBytes}
+use Rattle.records.specs.Variables.{isLetter, isNameByte, allNameBytes, nameRight, variableRight, fresh}
 use Rattle.findings.specs.declared.Finding.the-variants.{Integer}
 use Rattle.findings.specs.Findings.{findingOf}
 use Rattle.order.specs.Order.{placed}
@@ -50,14 +52,16 @@ use Rattle.odometer.specs.Limit.{mostCases, caseCount}
 use Rattle.cases.specs.declared.Checked.the-variants.{Holds, Fails}
 use Rattle.cases.specs.Checks.{Checks}
 use Rattle.cases.specs.Tallies.{Tallies}
-use Rattle.smtlib.specs.Satisfaction.{Satisfies}
+use Rattle.smtlib.specs.Values.{bitVec}
+use Rattle.smtlib.specs.Commands.{Declaration}
+use Rattle.smtlib.specs.Satisfaction.{declared, Satisfies}
 use Rattle.wording.specs.Words.{wordOf}
 use Rattle.wording.specs.Sixteen.{hexDigit, hexText, literal, symbolText}
 use Rattle.wording.specs.Script.{joined, script}
-use Rattle.wording.proofs.Sexps.{width16}
-use Rattle.wording.proofs.Spelt.{width-spelled}
-use Rattle.wording.proofs.Forms.{scriptBy}
-use Rattle.wording.proofs.Bits.{bitsLiteral}
+use Rattle.forms.specs.Form.{scriptBy}
+use Rattle.forms.specs.Binary.{bitsLiteral}
+use Rattle.forms.proofs.Sexps.{width16}
+use Rattle.forms.proofs.Spelt.{width-spelled}
 use Rattle.writer.specs.Writes.{enoughRoom}
 use Rattle.agreement.specs.Starred.{block, case1, case8, case11}
 use Rattle.agreement.specs.Statements.{Sheet, settingOf, Matched, Listed}
@@ -107,11 +111,11 @@ module _ {s other : List ℕ} {cases heldCases failedCases : ℕ} {firstCase : O
   pub script-fits : length (script (ruleIn s)) ≤ enoughRoom
   script-fits = room-enough s sheet
 
-  pub matches : Matched 16 (ruleIn s) (script (ruleIn s))
-  matches = match s sheet .0
+  pub matches : Matched 16 symbolText (ruleIn s) (script (ruleIn s))
+  matches = match s sheet
 
   -- in binary too
-  pub matches-in-bits : Matched 16 (ruleIn s) (scriptBy (bitsLiteral 16) symbolText width16 (ruleIn s))
+  pub matches-in-bits : Matched 16 symbolText (ruleIn s) (scriptBy (bitsLiteral 16) symbolText width16 (ruleIn s))
   matches-in-bits = match-in-bits width16 width-spelled (lit≤ tt) (ruleIn s) (allowed-sheet .0 .well-formed) (held-in-16 sheet)
 
   pub as-many : (ts : List (List ℕ)) × Listed (script (ruleIn s)) ts × (failedCases ≡ length ts)
@@ -225,6 +229,18 @@ names-alone-A = (same-size computedA (lit≤ tt), same-domain computedA (lit≤ 
 
 pub unsatisfiable-11 : (t : List ℕ) → Satisfies (script (ruleIn sheet11)) t → ⊥
 unsatisfiable-11 = no-setting computed11 (lit≤ tt) three refl refl
+
+-- no setting satisfies them, but they are accepted, and declare two symbols: in hexadecimal and in binary
+abbrev two-symbols : List Declaration
+two-symbols = record { name = ascii "v0"; sort = bitVec 16 } ∷ record { name = ascii "v1"; sort = bitVec 16 } ∷ []
+
+pub declared-11 : declared (script (ruleIn sheet11)) ≡ some two-symbols
+unfolding symbolText
+declared-11 = matches computed11 (lit≤ tt) .declares
+
+pub declared-in-bits-11 : declared (scriptBy (bitsLiteral 16) symbolText width16 (ruleIn sheet11)) ≡ some two-symbols
+unfolding symbolText
+declared-in-bits-11 = matches-in-bits computed11 (lit≤ tt) .declares
 
 pub holds-11 : AllHold (ruleIn sheet11)
 holds-11 = all-hold computed11 (lit≤ tt) three refl refl

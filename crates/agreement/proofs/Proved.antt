@@ -15,24 +15,22 @@ use Rattle.numbers.proofs.NarrowLaws.{in-narrow}
 use Rattle.meaning.specs.declared.Sort.{Sort}
 use Rattle.meaning.specs.declared.Sort.the-variants.{Truth, Integer}
 use Rattle.meaning.specs.Tree.{Tree}
-use Rattle.meaning.specs.Rule.{Variable, domainOf, Case, valueIn}
+use Rattle.meaning.specs.Rule.{domainOf, Case, valueIn}
 use Rattle.meaning.specs.Cases.{Failing, failures}
 use Rattle.meaning.proofs.Listed.{listed, in-order, in-every}
 use Rattle.meaning.proofs.Counts.{case-count, held-failed}
 use Rattle.meaning.proofs.Repeats.{map-no-repeats}
 use Rattle.meaning.proofs.Failures.{failures-are, failures-once, failed-is}
-use Rattle.kinds.proofs.ClaimLaws.{throughout-parts}
 use Rattle.layout.specs.Limits.{blockBytes}
 use Rattle.layout.specs.Parts.{variableCount, ruleIn, LaidOut}
 use Rattle.layout.specs.Sheet.{sheetOf}
-use Rattle.layout.proofs.PartLaws.{variable-total}
 use Rattle.layout.proofs.SheetBack.{sheet-laid-out}
 use Rattle.layout.proofs.Agree.{lengths, agrees}
 use Rattle.refusals.specs.declared.Refusal.{Refusal}
 use Rattle.refusals.proofs.AfterLaws.{passes}
 use Rattle.findings.proofs.SoundFindings.{tree-range, value-in}
 use Rattle.reading.specs.Cascade.{refusalOf}
-use Rattle.reading.specs.Lawful.{FitsIn, Allowed}
+use Rattle.reading.specs.Lawful.{Allowed}
 use Rattle.reading.specs.Name.{NameGiven}
 use Rattle.reading.proofs.Exact.{sheet-exactly}
 use Rattle.reading.proofs.NameLaws.{given-name}
@@ -43,23 +41,19 @@ use Rattle.cases.specs.declared.Checked.the-variants.{Fails}
 use Rattle.cases.specs.Checks.{tryRefusal, checkRefusal}
 use Rattle.cases.proofs.Exact.{tally-exactly, check-exactly}
 use Rattle.cases.proofs.Agreement.{fails-exactly, holds-exactly, room-fails}
-use Rattle.smtlib.specs.Values.{bitVec}
-use Rattle.smtlib.specs.Commands.{Declaration}
-use Rattle.smtlib.specs.Satisfaction.{declaredBy, declared, Satisfies}
+use Rattle.smtlib.specs.Satisfaction.{Satisfies}
 use Rattle.wording.specs.Sixteen.{symbolText}
 use Rattle.wording.specs.Script.{script}
-use Rattle.wording.proofs.Sexps.{declares, constant16}
-use Rattle.wording.proofs.Injective.{script-injective}
-use Rattle.wording.proofs.Forms.{form16, script-by, script-read}
-use Rattle.wording.proofs.Bits.{form-bits}
-use Rattle.wording.proofs.MeansTrees.{NoWrap}
-use Rattle.wording.proofs.MeansClaims.{WidthHolds}
-use Rattle.wording.proofs.MeansMatch.{one-case}
-use Rattle.wording.proofs.MeansScript.{form-means, held16}
+use Rattle.forms.specs.Width.{WidthHolds}
+use Rattle.forms.proofs.Injective.{script-injective}
+use Rattle.forms.proofs.Forms.{form-declares, form16, script-by}
+use Rattle.forms.proofs.Bits.{form-bits}
+use Rattle.forms.proofs.MeansMatch.{one-case}
+use Rattle.forms.proofs.MeansScript.{form-means, held16}
 use Rattle.writer.proofs.ScriptLaws.{script-short}
 use Rattle.writer.proofs.Exact.{script-exactly}
 use Rattle.agreement.specs.Statements as promise
-use Rattle.agreement.specs.Statements.{Sheet, settingOf, symbols, Matched, Listed}
+use Rattle.agreement.specs.Statements.{Sheet, settingOf, Matched, Listed}
 
 -- ---- demand 1
 pub refused-by-row : promise.RefusedExactly
@@ -132,6 +126,7 @@ room-enough s h = script-short s (accepts h)
 -- ---- demand 3: the match, over any width
 pub match-at-width : promise.MatchAtWidth
 match-at-width literal name digits m form r few well h = record {
+  declares = form-declares form r few well;
   satisfies = λ c f. form-means form r few well h _ .1 (c, f, refl);
   apart = λ c d f g. one-case (form .texts .some-bits) h (f .0) (g .0);
   onto = λ t. form-means form r few well h t .0;
@@ -141,33 +136,24 @@ pub match-in-bits : promise.MatchInBits
 match-in-bits digits spelled positive r well = match-at-width _ _ _ _ (form-bits digits spelled positive) r (omega (arith, well .few)) well
 
 -- in a case of an accepted sheet no operator wraps, since each value lies in its range
-module _ {s : List ℕ} (h : Sheet s) where
-  no-wrap : {c : List ℤ} → Case (ruleIn s) c → (a : Sort) (t : Tree a) → FitsIn (ruleIn s) a t → NoWrap 16 (valueIn c) a t
-  no-wrap k Truth t f = tt
-  no-wrap k Integer t f = narrow-within (in-narrow (rw (tree-range (domainOf (ruleIn s)) t) at f) (value-in (in-every k) t))
+pub in-sixteen : promise.InSixteenBits
+in-sixteen s h c k t p = in-narrow (rw (tree-range (domainOf (ruleIn s)) t) at (allowed h .lawful .ranges Integer t p)) (value-in (in-every k) t)
 
-  pub held : WidthHolds 16 (ruleIn s)
-  held = held16 (allowed h .well-formed) (λ c k. throughout-parts (NoWrap 16 (valueIn c)) (ruleIn s .goal) .1 (λ a t p. no-wrap k a t (allowed h .lawful .ranges a t p)))
-
-declares-from : (i : ℕ) (vs : List Variable) → declares constant16 symbolText 16 i vs ≡ from (λ j. record { name = symbolText j; sort = bitVec 16 }) i (length vs)
-declares-from i [] = refl
-declares-from i (v ∷ vs) = ap (λ (l : List Declaration). record { name = symbolText i; sort = bitVec 16 } ∷ l) (declares-from (suc i) vs)
+pub held : {s : List ℕ} → Sheet s → WidthHolds 16 (ruleIn s)
+held {s} h = held16 (allowed h .well-formed) (λ c k t p. narrow-within (in-sixteen s h c k t p))
 
 pub match : promise.Match
-unfolding declared
 match s h =
-    let well = allowed h .well-formed in (
-      rw (script-by (ruleIn s)) (match-at-width _ _ _ _ form16 (ruleIn s) (omega (arith, well .few)) well (held h)),
-      ap declaredBy (script-read (ruleIn s) well) ∙ ap some (declares-from 0 (ruleIn s .variables)) ∙ ap (λ (n : ℕ). some (symbols n)) (variable-total s),
-    )
+    let well = allowed h .well-formed in
+    rw (script-by (ruleIn s)) (match-at-width _ _ _ _ form16 (ruleIn s) (omega (arith, well .few)) well (held h))
 
 -- ---- the check and the tally
 module _ (s : List ℕ) (h : Sheet s) where
   abbrev SomeSetting : Type 0
   SomeSetting = (t : List ℕ) × Satisfies (script (ruleIn s)) t
 
-  matched : Matched 16 (ruleIn s) (script (ruleIn s))
-  matched = match s h .0
+  matched : Matched 16 symbolText (ruleIn s) (script (ruleIn s))
+  matched = match s h
 
   some-setting : ((c : List ℤ) × Failing (ruleIn s) c) ↔ SomeSetting
   some-setting = (λ p. (settingOf 16 (p .0), matched .satisfies (p .0) (p .1)), λ w. let p = matched .onto (w .0) (w .1) in (p .0, p .1))

@@ -14,9 +14,14 @@ use Rattle.refusals.specs.declared.Refusal.{Refusal}
 use Rattle.refusals.specs.Rows.{Exactly}
 use Rattle.numbers.specs.Two.{enc}
 use Rattle.numbers.specs.Bytes.{byteAt, Bytes}
-use Rattle.meaning.specs.Rule.{Rule, Case}
+use Rattle.numbers.specs.Ranges.{Narrow}
+use Rattle.meaning.specs.declared.Sort.the-variants.{Integer}
+use Rattle.meaning.specs.Tree.{Tree}
+use Rattle.meaning.specs.Value.{value}
+use Rattle.meaning.specs.Rule.{Rule, Case, valueIn}
 use Rattle.meaning.specs.Cases.{casesOf, Failing, AllHold, held, failed}
 use Rattle.meaning.specs.CaseOrder.{Earlier, Rising, FirstFailing}
+use Rattle.kinds.specs.Rows.{PartOf}
 use Rattle.layout.specs.Limits.{blockBytes}
 use Rattle.layout.specs.Checks.{checkOf, content, storedCheck, Inside}
 use Rattle.layout.specs.WellFormed.{WellFormed}
@@ -42,12 +47,12 @@ use Rattle.smtlib.specs.Values.{bitVec}
 use Rattle.smtlib.specs.Terms.{numberOf}
 use Rattle.smtlib.specs.Commands.{Declaration}
 use Rattle.smtlib.specs.Satisfaction.{declared, Satisfies}
-use Rattle.smtlib.proofs.Printing.{Spelled}
+use Rattle.smtlib.specs.Spelling.{Spelled}
 use Rattle.wording.specs.Sixteen.{symbolText}
 use Rattle.wording.specs.Script.{script}
-use Rattle.wording.proofs.Forms.{Form, scriptBy}
-use Rattle.wording.proofs.Bits.{bitsLiteral}
-use Rattle.wording.proofs.MeansClaims.{WidthHolds}
+use Rattle.forms.specs.Form.{Form, scriptBy}
+use Rattle.forms.specs.Binary.{bitsLiteral}
+use Rattle.forms.specs.Width.{WidthHolds}
 use Rattle.writer.specs.declared.Written.{Written}
 use Rattle.writer.specs.declared.Written.the-variants.{Script, Refused}
 use Rattle.writer.specs.Writes.{scriptRefusal, enoughRoom, Writes}
@@ -130,6 +135,10 @@ RoomKept =
     → ((before after : List ℤ) (r : Checked) → Checks s before r after → CheckRoom s before r after)
     × ((before after : List ℕ) (r : Written) → Writes s before r after → ScriptRoom s before r after)
 
+-- in no case does an operator leave 16 bits: each integer in the goal has a value in -32,768..32,767
+abbrev pub InSixteenBits : Type 0
+InSixteenBits = (s : List ℕ) → Sheet s → (c : List ℤ) → Case (ruleIn s) c → (t : Tree Integer) → PartOf t (ruleIn s .goal) → Narrow (value (valueIn c) t)
+
 -- a room of 4,096 bytes is enough for every script
 abbrev pub RoomEnough : Type 0
 RoomEnough = (s : List ℕ) → Sheet s → length (script (ruleIn s)) ≤ enoughRoom
@@ -138,32 +147,33 @@ RoomEnough = (s : List ℕ) → Sheet s → length (script (ruleIn s)) ≤ enoug
 abbrev pub settingOf : ℕ → List ℤ → List ℕ
 settingOf w c = map (enc w) c
 
--- the rule's failing cases and the settings that satisfy a text match one to one
-pub record Matched (w : ℕ) (r : Rule) (text : List ℕ) : Type 0 where
+-- a symbol of w bits for each of n variables, in order
+abbrev pub symbols : ℕ → (ℕ → List ℕ) → ℕ → List Declaration
+symbols w name n = from (λ i. record { name = name i; sort = bitVec w }) 0 n
+
+-- SMT-LIB accepts the text, which declares these symbols and no others; and the rule's failing cases and the settings that satisfy the text match one to one
+pub record Matched (w : ℕ) (name : ℕ → List ℕ) (r : Rule) (text : List ℕ) : Type 0 where
+  pub declares : declared text ≡ some (symbols w name (length (r .variables)))
   pub satisfies : (c : List ℤ) → Failing r c → Satisfies text (settingOf w c)
   pub apart : (c d : List ℤ) → Failing r c → Failing r d → settingOf w c ≡ settingOf w d → c ≡ d
   pub onto : (t : List ℕ) → Satisfies text t → (c : List ℤ) × Failing r c × (settingOf w c ≡ t)
 
--- for every accepted sheet and its script, whose symbols are v0 to v(V - 1), in that order
-abbrev pub symbols : ℕ → List Declaration
-symbols n = from (λ i. record { name = symbolText i; sort = bitVec 16 }) 0 n
-
+-- for every accepted sheet and its script, whose symbols are v0 to v(V - 1)
 abbrev pub Match : Type 0
-Match = (s : List ℕ) → Sheet s → Matched 16 (ruleIn s) (script (ruleIn s)) × (declared (script (ruleIn s)) ≡ some (symbols (variableCount s)))
+Match = (s : List ℕ) → Sheet s → Matched 16 symbolText (ruleIn s) (script (ruleIn s))
 
--- over any width that holds the rule, and any form of the script at that width; what both are (`WidthHolds`, `Form`) is about the text and about its
--- reading, and stands where both are known, in `wording/proofs`
+-- over any width that holds the rule, and any form of the script at that width
 abbrev pub MatchAtWidth : Type 0
 MatchAtWidth =
     (literal : ℤ → List ℕ) (name : ℕ → List ℕ) (digits : List ℕ) (m : ℕ) → Form literal name digits m
     → (r : Rule) → length (r .variables) ≤ m → WellFormed r → WidthHolds (numberOf 10 digits) r
-    → Matched (numberOf 10 digits) r (scriptBy literal name digits r)
+    → Matched (numberOf 10 digits) name r (scriptBy literal name digits r)
 
 -- such a form, at every width: a constant is `#b` and so many binary digits
 abbrev pub MatchInBits : Type 0
 MatchInBits =
     (digits : List ℕ) → Spelled (numeral digits) → 1 ≤ numberOf 10 digits → (r : Rule) → WellFormed r → WidthHolds (numberOf 10 digits) r
-    → Matched (numberOf 10 digits) r (scriptBy (bitsLiteral (numberOf 10 digits)) symbolText digits r)
+    → Matched (numberOf 10 digits) symbolText r (scriptBy (bitsLiteral (numberOf 10 digits)) symbolText digits r)
 
 -- up to 1,000,000 cases and with room for V numbers, the check reports a failing case exactly when some setting satisfies the script, and the case gives one
 abbrev pub CheckAgrees : Type 0

@@ -21,7 +21,8 @@ use Rattle.layout.specs.Sheet.{sheetOf}
 use Rattle.layout.proofs.Example.{sheetA}
 use Rattle.blocks.specs.Early.{lengthRight, early}
 use Rattle.header.specs.Header.{zeros, countsRight, tailClear, outsideClear, header}
-use Rattle.records.specs.Variables.{isLetter, isNameByte, allNameBytes, nameRight, sameBytes, variableRight, fresh}
+use Rattle.lists.specs.Names.{sameBytes}
+use Rattle.records.specs.Variables.{isLetter, isNameByte, allNameBytes, nameRight, variableRight, fresh}
 use Rattle.findings.specs.Findings.{findingOf}
 use Rattle.order.specs.Order.{placed}
 use Rattle.nodes.specs.Nodes.{typed, nodeRefusal, nodes}

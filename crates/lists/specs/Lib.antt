@@ -4,3 +4,5 @@ pub mod Course
 pub mod First
 pub mod Part
 pub mod Ascii
+pub mod Names
+pub mod Few

@@ -12,7 +12,7 @@ use Rattle.numbers.specs.Bytes.{byteAt, i16At}
 use Rattle.layout.specs.Limits.{mostNameBytes, nameStart, nameField}
 use Rattle.layout.specs.Parts.{nameSize, zeroByte, nameIn, VariableLaidOut}
 use Rattle.header.proofs.ZeroLaws.{zeros-at, zeros-of}
-use Rattle.records.specs.Variables.{isLetter, isNameByte, allNameBytes, nameRight, sameBytes, variableRight}
+use Rattle.records.specs.Variables.{isLetter, isNameByte, allNameBytes, nameRight, variableRight}
 use Rattle.records.specs.Names.{Letter, NameByte, Name, VariableRule}
 use Rattle.lists.proofs.Decided.{Decides, decides-as, decides-and, decides-or, decides-le, decides-eq}
 use Rattle.numbers.proofs.OrderTests.{decides-leZ}
@@ -41,13 +41,6 @@ pub name-decided : (l : List ℕ) → Decides (nameRight l) (Name l)
 unfolding nameRight
 name-decided [] = (λ e. false≢true e, λ n. absurd n)
 name-decided (b ∷ bs) = decides-and (letter-decided b) (name-bytes-decided bs)
-
-pub same-decided : (k l : List ℕ) → Decides (sameBytes k l) (k ≡ l)
-unfolding sameBytes
-same-decided [] [] = (λ e. refl, λ e. refl)
-same-decided [] (c ∷ l) = (λ e. absurd (false≢true e), λ e. absurd (omega (arith, ap length e)))
-same-decided (b ∷ k) [] = (λ e. absurd (false≢true e), λ e. absurd (omega (arith, ap length e)))
-same-decided (b ∷ k) (c ∷ l) = decides-as (decides-and (decides-eq b c) (same-decided k l)) (λ w. ap₂ _∷_ (w .0) (w .1)) (λ e. (cc, cc))
 
 module _ (s : List ℕ) (i : ℕ) where
   -- every byte from the name's end to the record's

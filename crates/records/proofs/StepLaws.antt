@@ -15,7 +15,8 @@ use Rattle.layout.specs.Limits.{mostNameBytes, variablePlace}
 use Rattle.layout.specs.Parts.{nameSize, zeroByte, nameIn}
 use Rattle.header.specs.Header.{zeros}
 use Rattle.lists.proofs.BelowLaws.{all-pass, all-stop}
-use Rattle.records.specs.Variables.{isLetter, isNameByte, allNameBytes, nameRight, sameBytes, variableRight, fresh}
+use Rattle.lists.specs.Names.{sameBytes}
+use Rattle.records.specs.Variables.{isLetter, isNameByte, allNameBytes, nameRight, variableRight, fresh}
 use Rattle.records.specs.Names.{VariableRule}
 use Rattle.lists.proofs.Decided.{denied}
 use Rattle.records.proofs.NameLaws.{variable-decided}

@@ -14,7 +14,8 @@ use Rattle.refusals.proofs.SaidLaws.{unless-none, unless-true}
 use Rattle.records.specs.Variables.{variableRight, fresh, variableRefusal, variables}
 use Rattle.records.specs.Names.{VariableKept}
 use Rattle.lists.proofs.Decided.{Decides, decides-not, decides-and, decides-all}
-use Rattle.records.proofs.NameLaws.{same-decided, variable-decided}
+use Rattle.lists.proofs.NameLaws.{same-decided}
+use Rattle.records.proofs.NameLaws.{variable-decided}
 
 module _ (s : List ℕ) where
   pub fresh-decided : (n : ℕ) → Decides (fresh s n) ((m : ℕ) → m < n → nameIn s (variablePlace m) ≡ nameIn s (variablePlace n) → ⊥)

@@ -7,6 +7,7 @@ use lib.Dec.{eqb, leb}
 use lib.Signed.{leZ}
 use Rattle.lists.specs.Places.{allBelow}
 use Rattle.lists.specs.First.{first}
+use Rattle.lists.specs.Names.{sameBytes}
 use Rattle.refusals.specs.declared.Refusal.{Refusal}
 use Rattle.numbers.specs.Bytes.{i16At}
 use Rattle.layout.specs.Limits.{mostNameBytes, nameStart, nameField, variablePlace}
@@ -29,13 +30,6 @@ allNameBytes (b ∷ bs) = isNameByte b && allNameBytes bs
 unfoldable pub nameRight : List ℕ → Bool
 nameRight [] = false
 nameRight (b ∷ bs) = isLetter b && allNameBytes bs
-
--- two names are the same, byte for byte
-unfoldable pub sameBytes : List ℕ → List ℕ → Bool
-sameBytes [] [] = true
-sameBytes [] (c ∷ cs) = false
-sameBytes (b ∷ bs) [] = false
-sameBytes (b ∷ bs) (c ∷ cs) = eqb b c && sameBytes bs cs
 
 -- the record at place i: min ≤ max, a name of 1 to 16 bytes that is a name, the zero byte, and zeros behind the name to the record's end
 unfoldable pub variableRight : List ℕ → ℕ → Bool

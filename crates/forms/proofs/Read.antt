@@ -10,8 +10,10 @@ use lib.IntN.{ℤ}
 use lib.ListN.{length, getD}
 use borrow.Author.Tests.{eqb-true}
 use Rattle.lists.specs.Ascii.{ascii}
+use Rattle.lists.specs.Names.{sameBytes}
 use Rattle.lists.specs.Places.{allBelow}
 use Rattle.lists.proofs.TestLaws.{all-true}
+use Rattle.lists.proofs.NameLaws.{same-decided}
 use Rattle.numbers.specs.declared.Range.{Range}
 use Rattle.numbers.specs.Two.{enc}
 use Rattle.numbers.proofs.Bytes16.{enc16-lt}
@@ -30,21 +32,22 @@ use Rattle.kinds.proofs.ClaimLaws.{Throughout}
 use Rattle.layout.specs.Fold.{Found, ofTree}
 use Rattle.layout.specs.WellFormed.{FineVariable, Fine, WellFormed}
 use Rattle.layout.proofs.Made.{FineMade, foundMade, fine-parts, throughout-fine, fine-throughout, found-make}
-use Rattle.smtlib.specs.Tokens.{Atom, symbol, same}
+use Rattle.smtlib.specs.Tokens.{Atom, symbol}
 use Rattle.smtlib.specs.Sexps.{Sexp, atom}
 use Rattle.smtlib.specs.Values.{Sort as SmtSort, bool, bitVec, Val, bits, sorted}
 use Rattle.smtlib.specs.Theory.{functions, otherNames, function, theoryName}
 use Rattle.smtlib.specs.Terms.{Environment, numberOf, value}
-use Rattle.smtlib.specs.Commands.{Declaration, declareFun, logics, commandOf}
+use Rattle.smtlib.specs.Commands.{Declaration, declareFun, commandOf}
 use Rattle.smtlib.specs.Settings.{environment, zeros}
-use Rattle.smtlib.specs.Scripts.{solverName, isDeclared, formula, gather, scriptIn}
-use Rattle.smtlib.proofs.NameLaws.{same-is, same-self, stands-here, stands-later}
+use Rattle.smtlib.specs.Scripts.{isDeclared, formula, gather, setsLogic, scriptIn}
+use Rattle.smtlib.proofs.NameLaws.{no-function, stands-here, stands-later}
 use Rattle.smtlib.proofs.TermLaws.{call1, call2, call3, value-symbol, value-hexadecimal, value-constant, value-truths1, value-vectors1, value-left, value-right, value-relation, value-vectors2, value-order, value-choice}
-use Rattle.smtlib.proofs.CommandLaws.{logic-read, declare-read, assert-read, check-read, exit-read, vector-read, begins, declares-next, asserts-next, asks-next, exits, declared-append, fresh-name}
+use Rattle.smtlib.proofs.CommandLaws.{declare-read, assert-read, check-read, exit-read, vector-read, begins, declares-next, asserts-next, asks-next, exits, declared-append, fresh-name}
 use Rattle.wording.specs.Words.{wordOf}
 use Rattle.wording.specs.Sixteen.{symbolText}
 use Rattle.wording.specs.Script.{claims}
-use Rattle.wording.proofs.Sexps.{sexpStep, sexp, declareSexp, declareChain, assertChain, chainOf, declares, asked, hexDigits, constant16, width16}
+use Rattle.forms.specs.Form.{Texts}
+use Rattle.forms.proofs.Sexps.{sexpStep, sexp, declareSexp, declareChain, assertChain, chainOf, declares, asked, hexDigits, constant16, width16}
 
 -- ---- the claims are as fine as the rule
 abbrev pub AllFine : ℕ → List (Tree Truth) → Type 0
@@ -87,7 +90,7 @@ module _ (constant : ℤ → Atom) (name : ℕ → List ℕ) (w v : ℕ) (env : 
 
   -- each word's function takes and gives what the kind's row says
   kind-sorted : (k : Kind) (x : Found Sexp (row k .shape)) → Operands (row k .shape) x → Has env (sortFor w (row k .gives)) (sexpStep constant name k x)
-  unfolding wordOf function functions
+  unfolding sameBytes wordOf function functions
   kind-sorted Unknown x h = absurd h
   kind-sorted True x h = record { known = _; is = value-constant env _ refl }
   kind-sorted False x h = record { known = _; is = value-constant env _ refl }
@@ -102,9 +105,9 @@ module _ (constant : ℤ → Atom) (name : ℕ → List ℕ) (w v : ℕ) (env : 
   kind-sorted Constant x h = constants x
   kind-sorted VariableKind x h = symbols x h
   kind-sorted Minus x h = record { known = _; is = value-vectors1 env _ refl x (h .is) }
-  kind-sorted Sum x h = record { known = _; is = value-vectors2 env _ _ _ refl (h .0 .is) (h .1 .is) }
-  kind-sorted Difference x h = record { known = _; is = value-vectors2 env _ _ _ refl (h .0 .is) (h .1 .is) }
-  kind-sorted Product x h = record { known = _; is = value-vectors2 env _ _ _ refl (h .0 .is) (h .1 .is) }
+  kind-sorted Sum x h = record { known = _; is = value-vectors2 env _ _ _ _ refl (h .0 .is) (h .1 .is) }
+  kind-sorted Difference x h = record { known = _; is = value-vectors2 env _ _ _ _ refl (h .0 .is) (h .1 .is) }
+  kind-sorted Product x h = record { known = _; is = value-vectors2 env _ _ _ _ refl (h .0 .is) (h .1 .is) }
   kind-sorted If x h = record { known = _; is = value-choice env _ _ _ refl _ (bitVec w) _ _ (h .0 .is) (h .1 .is) (h .2 .is) }
 
   abbrev SortedTree : (s : Sort) → Tree s → Type 0
@@ -127,16 +130,9 @@ module _ (constant : ℤ → Atom) (name : ℕ → List ℕ) (w v : ℕ) (env : 
 
 -- ---- the script's commands, for up to m variables
 
--- what the texts of constants, of variables and of the width must be
-pub record Texts (constant : ℤ → Atom) (name : ℕ → List ℕ) (width : List ℕ) (m : ℕ) : Type 0 where
-  pub some-bits : 1 ≤ numberOf 10 width
-  -- a constant is read in two's complement
-  pub constants : (env : Environment) (z : ℤ) → value env (atom (constant z)) ≡ bits (numberOf 10 width) (enc (numberOf 10 width) z)
-  -- a name is none of a theory's and none that is left to solvers, and no two are the same
-  pub free : (i : ℕ) → function (name i) ≡ none
-  pub theory : (i : ℕ) → theoryName (name i) ≡ false
-  pub solver : (i : ℕ) → solverName (name i) ≡ false
-  pub distinct : (i j : ℕ) → i < m → j < m → name i ≡ name j → i ≡ j
+-- a name names no function
+pub free : {constant : ℤ → Atom} {name : ℕ → List ℕ} {digits : List ℕ} {m : ℕ} → Texts constant name digits m → (i : ℕ) → function (name i) ≡ none
+free {name} texts i = no-function (name i) (texts .theory i)
 
 module _ (constant : ℤ → Atom) (name : ℕ → List ℕ) (width : List ℕ) (m : ℕ) (texts : Texts constant name width m) where
   abbrev size : ℕ
@@ -145,13 +141,13 @@ module _ (constant : ℤ → Atom) (name : ℕ → List ℕ) (width : List ℕ) 
   abbrev declaredAt : ℕ → Declaration
   declaredAt i = record { name = name i; sort = bitVec size }
 
-  apart : {i j : ℕ} → i < j → j < m → same (name i) (name j) ≡ false
-  apart {i} {j} l h = by (same (name i) (name j)) refl
+  apart : {i j : ℕ} → i < j → j < m → sameBytes (name i) (name j) ≡ false
+  apart {i} {j} l h = by (sameBytes (name i) (name j)) refl
     where
-      by : (b : Bool) → same (name i) (name j) ≡ b → b ≡ false
+      by : (b : Bool) → sameBytes (name i) (name j) ≡ b → b ≡ false
       by false e = refl
       by true e =
-          let d : i ≡ j = texts .distinct i j (omega arith) h (same-is (name i) (name j) e) in
+          let d : i ≡ j = texts .distinct i j (omega arith) h (same-decided (name i) (name j) .0 e) in
           absurd (omega arith)
 
   stands-from : (i : ℕ) (vs : List Variable) (s : List ℕ) (j k : ℕ) → k ≡ i + j → i + length vs ≤ m → length s ≡ length vs → j < length vs
@@ -160,7 +156,7 @@ module _ (constant : ℤ → Atom) (name : ℕ → List ℕ) (width : List ℕ) 
   stands-from i (v ∷ vs) [] j k e b l h = absurd (omega arith)
   stands-from i (v ∷ vs) (n ∷ s) zero k e b l h =
       let d : k ≡ i = omega arith in
-      stands-here (declaredAt i) (declares constant name size (suc i) vs) n s (name k) (rw d (same-self (name i)))
+      stands-here (declaredAt i) (declares constant name size (suc i) vs) n s (name k) (rw d (same-decided (name i) (name i) .1 refl))
   stands-from i (v ∷ vs) (n ∷ s) (suc j) k e b l h =
       stands-later (declaredAt i) (declares constant name size (suc i) vs) n s (name k) (apart (omega arith) (omega arith))
       ∙ stands-from (suc i) vs s j k (omega arith) (omega arith) (omega arith) (omega arith)
@@ -201,7 +197,7 @@ module _ (constant : ℤ → Atom) (name : ℕ → List ℕ) (width : List ℕ) 
     pub setting-sorted : (s : List ℕ) → length s ≡ length vs → {k : Sort} (t : Tree k) → Fine (length vs) t → Has (environment ds s) (sortFor size k) (sexp constant name t)
     setting-sorted s l t f =
         tree-sorted constant name size (length vs) (environment ds s) (λ z. record { known = _; is = texts .constants (environment ds s) z })
-        (λ i h. record { known = _; is = value-symbol (environment ds s) (name i) (texts .free i) ∙ symbol-stands vs few s l i h }) t f
+        (λ i h. record { known = _; is = value-symbol (environment ds s) (name i) (free texts i) ∙ symbol-stands vs few s l i h }) t f
 
     is-formula : (t : Tree Truth) → Fine (length vs) t → formula ds (sexp constant name t) ≡ true
     unfolding formula
@@ -217,9 +213,9 @@ module _ (constant : ℤ → Atom) (name : ℕ → List ℕ) (width : List ℕ) 
 
   -- ---- the whole
   pub chain-read : (r : Rule) → length (r .variables) ≤ m → WellFormed r → scriptIn (chainOf constant name width r) ≡ some (asked constant name size r)
-  unfolding logics
+  unfolding sameBytes setsLogic
   chain-read r few f =
-      begins _ _ (logic-read (ascii "QF_UFBV") refl)
+      begins _ _ refl
       ∙ all-declared [] 0 (r .variables) _ (λ j l h. refl) (omega arith)
       ∙ all-asserted (r .variables) few [] (claims 0 (r .variables) (r .goal)) _ (claims-fine r f)
       ∙ asks-next _ _ false _ _ check-read
@@ -298,11 +294,10 @@ pub symbol-distinct : (i j : ℕ) → i < 100 → j < 100 → symbolText i ≡ s
 symbol-distinct i j h k e = sym (symbol-number i h) ∙ ap numberIn e ∙ symbol-number j k
 
 pub texts16 : Texts constant16 symbolText width16 100
-unfolding symbolText function functions theoryName otherNames
+unfolding sameBytes symbolText functions theoryName otherNames
 texts16 = record {
   some-bits = lit≤ tt;
   constants = constant16-value;
-  free = λ i. refl;
   theory = λ i. refl;
   solver = λ i. refl;
   distinct = symbol-distinct;

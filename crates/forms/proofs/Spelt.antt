@@ -8,6 +8,7 @@ use lib.Dec.{ltb, lit<, lit≤}
 use lib.IntN.{ℤ}
 use borrow.Author.Tests.{ltb-true}
 use Rattle.lists.specs.Ascii.{ascii}
+use Rattle.lists.specs.Names.{sameBytes}
 use Rattle.lists.specs.Places.{allBelow}
 use Rattle.lists.proofs.TestLaws.{and, all-true}
 use Rattle.numbers.specs.Two.{enc}
@@ -26,13 +27,14 @@ use Rattle.layout.proofs.Made.{foundMade, found-make}
 use Rattle.smtlib.specs.Characters.{every, letterChar, digitChar, symbolChar}
 use Rattle.smtlib.specs.Tokens.{Atom, symbol, numeral, reservedWords, simple}
 use Rattle.smtlib.specs.Sexps.{Sexp, nil, cons}
-use Rattle.smtlib.proofs.Printing.{digitByte, spelling, print, lines, Spelled, Printable, Listing}
+use Rattle.smtlib.specs.Spelling.{digitByte, spelling, Spelled}
+use Rattle.smtlib.proofs.Printing.{print, lines, Printable, Listing}
 use Rattle.smtlib.proofs.Spelling.{spelled-symbol, spelled-reserved, spelled-numeral, spelled-hexadecimal}
 use Rattle.wording.specs.Words.{wordOf}
 use Rattle.wording.specs.Text.{textBy, textStep, text}
 use Rattle.wording.specs.Sixteen.{hexDigit, hexText, literal, symbolText}
 use Rattle.wording.specs.Script.{claims, declaration, declarations, assertion, linesOf, joined}
-use Rattle.wording.proofs.Sexps.{sexpBy, sexpStep, sexp, declareSexp, declareChain, assertChain, chainOf, constant16, width16}
+use Rattle.forms.proofs.Sexps.{sexpBy, sexpStep, sexp, declareSexp, declareChain, assertChain, chainOf, constant16, width16}
 
 -- ---- words
 
@@ -47,7 +49,7 @@ Worded (Two s t) = Unit {0}
 Worded (Three s t u) = Unit {0}
 
 word-spelled : (k : Kind) → Worded (row k .shape) → Spelled (symbol (wordOf k))
-unfolding wordOf every letterChar digitChar symbolChar reservedWords
+unfolding sameBytes wordOf every letterChar digitChar symbolChar reservedWords
 word-spelled Unknown q = absurd q
 word-spelled True q = spelled-symbol _ refl refl
 word-spelled False q = spelled-symbol _ refl refl
@@ -145,18 +147,18 @@ module _ (constant : ℤ → Atom) (name : ℕ → List ℕ) where
 
     module _ (width : List ℕ) (numbers : Spelled (numeral width)) where
       declares-listing : (i : ℕ) (vs : List Variable) (s : Sexp) → Listing s → Listing (declareChain constant name width i vs s)
-      unfolding every letterChar digitChar symbolChar reservedWords
+      unfolding sameBytes every letterChar digitChar symbolChar reservedWords
       declares-listing i [] s h = h
       declares-listing i (v ∷ vs) s h =
           ((spelled-reserved _ refl refl, (names i, (tt, ((spelled-reserved _ refl refl, (spelled-symbol _ refl refl, (numbers, tt))), tt)))), declares-listing (suc i) vs s h)
 
       asserts-listing : (ts : List (Tree Truth)) (s : Sexp) → Listing s → Listing (assertChain constant name width ts s)
-      unfolding every letterChar digitChar symbolChar reservedWords
+      unfolding sameBytes every letterChar digitChar symbolChar reservedWords
       asserts-listing [] s h = h
       asserts-listing (t ∷ ts) s h = ((spelled-reserved _ refl refl, (printable t, tt)), asserts-listing ts s h)
 
       pub chain-listing : (r : Rule) → Listing (chainOf constant name width r)
-      unfolding every letterChar digitChar symbolChar reservedWords
+      unfolding sameBytes every letterChar digitChar symbolChar reservedWords
       chain-listing r = (
         (spelled-reserved _ refl refl, (spelled-symbol _ refl refl, tt)),
         declares-listing 0 (r .variables) _ (asserts-listing (claims 0 (r .variables) (r .goal)) _ ((spelled-reserved _ refl refl, tt), ((spelled-reserved _ refl refl, tt), tt))),
@@ -178,7 +180,7 @@ unfolding symbolChar letterChar digitChar allBelow
 digit-char d h = all-true (λ j. symbolChar (48 + j)) 10 refl d h
 
 pub symbol-spelled : (i : ℕ) → Spelled (symbol (symbolText i))
-unfolding symbolText every symbolChar letterChar digitChar reservedWords
+unfolding sameBytes symbolText every symbolChar letterChar digitChar reservedWords
 symbol-spelled i = spelled-symbol (symbolText i) (by (ltb i 10) refl) refl
   where
     by : (b : Bool) → ltb i 10 ≡ b → simple (symbolText i) ≡ true

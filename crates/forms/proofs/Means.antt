@@ -8,6 +8,7 @@ use lib.IntN.{ℤ, negℤ, _+ℤ_, _-ℤ_, _*ℤ_, ℤ-discrete}
 use lib.Signed.{ltZ, leZ}
 use borrow.Author.Tests.{eq-eqb, ne-eqb}
 use Rattle.lists.specs.Ascii.{ascii}
+use Rattle.lists.specs.Names.{sameBytes}
 use Rattle.numbers.specs.Two.{enc, Within}
 use Rattle.numbers.proofs.Coding.{enc-lt, enc-inj}
 use Rattle.numbers.proofs.Modular.{enc-neg, enc-add, enc-sub, enc-mul, less-is, most-is}
@@ -27,9 +28,9 @@ use Rattle.smtlib.specs.Theory.{functions, function}
 use Rattle.smtlib.specs.Terms.{Environment, value}
 use Rattle.smtlib.proofs.TermLaws.{value-constant, value-truths1, value-vectors1, value-left, value-right, value-relation, value-vectors2, value-order, value-choice}
 use Rattle.smtlib.proofs.OrderLaws.{bvslt-is, bvsle-is}
 use Rattle.wording.specs.Words.{wordOf}
-use Rattle.wording.proofs.Sexps.{sexp}
-use Rattle.wording.proofs.MeansTrees.{NoWrap, Below}
+use Rattle.forms.proofs.MeansTrees.{NoWrap, Below}
+use Rattle.forms.proofs.Sexps.{sexp}
 
 -- ---- Core's functions are those of the meaning
 implies-is : (a b : Bool) → not a || b ≡ implied a b
@@ -93,7 +94,7 @@ coded w Integer z = bits w (enc w z)
 
 module _ {w v : ℕ} {constant : ℤ → Atom} {name : ℕ → List ℕ} {ρ : ℕ → ℤ} {env : Environment} (one : 1 ≤ w) (h : Holding w v constant name ρ env) where
   pub means : {s : Sort} (t : Tree s) → Throughout (NoWrap w ρ) t → Throughout (Below v) t → value env (sexp constant name t) ≡ coded w s (meant ρ t)
-  unfolding ofTree by-rows Throughout wordOf meant function functions
+  unfolding ofTree by-rows Throughout wordOf meant sameBytes function functions
   means tru k l = value-constant env (ascii "true") refl
   means fls k l = value-constant env (ascii "false") refl
   means (neg a) k l = value-truths1 env (ascii "not") refl _ (means a (k .1) (l .1))
@@ -116,11 +117,11 @@ module _ {w v : ℕ} {constant : ℤ → Atom} {name : ℕ → List ℕ} {ρ : �
   means (var i) k l = h .symbols i (l .0 i refl)
   means (minus a) k l = value-vectors1 env (ascii "bvneg") refl _ (means a (k .1) (l .1)) ∙ ap (bits w) (neg-is w (meant ρ a))
   means (sum a b) k l =
-      value-vectors2 env (ascii "bvadd") _ _ refl (means a (k .1 .0) (l .1 .0)) (means b (k .1 .1) (l .1 .1)) ∙ ap (bits w) (add-is w (meant ρ a) (meant ρ b))
+      value-vectors2 env (ascii "bvadd") _ _ _ refl (means a (k .1 .0) (l .1 .0)) (means b (k .1 .1) (l .1 .1)) ∙ ap (bits w) (add-is w (meant ρ a) (meant ρ b))
   means (difference a b) k l =
-      value-vectors2 env (ascii "bvsub") _ _ refl (means a (k .1 .0) (l .1 .0)) (means b (k .1 .1) (l .1 .1)) ∙ ap (bits w) (sub-is w (meant ρ a) (meant ρ b))
+      value-vectors2 env (ascii "bvsub") _ _ _ refl (means a (k .1 .0) (l .1 .0)) (means b (k .1 .1) (l .1 .1)) ∙ ap (bits w) (sub-is w (meant ρ a) (meant ρ b))
   means (product a b) k l =
-      value-vectors2 env (ascii "bvmul") _ _ refl (means a (k .1 .0) (l .1 .0)) (means b (k .1 .1) (l .1 .1)) ∙ ap (bits w) (mul-is w (meant ρ a) (meant ρ b))
+      value-vectors2 env (ascii "bvmul") _ _ _ refl (means a (k .1 .0) (l .1 .0)) (means b (k .1 .1) (l .1 .1)) ∙ ap (bits w) (mul-is w (meant ρ a) (meant ρ b))
   means (ite c a b) k l =
       value-choice env (ascii "ite") _ _ refl _ (bitVec w) _ _ (means c (k .1 .0) (l .1 .0)) (means a (k .1 .1) (l .1 .1)) (means b (k .1 .2) (l .1 .2))
       ∙ ap (bits w) (ite-is w (meant ρ c) (meant ρ a) (meant ρ b))

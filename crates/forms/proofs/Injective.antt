@@ -25,20 +25,21 @@ use Rattle.layout.specs.WellFormed.{Fine, WellFormed}
 use Rattle.layout.specs.Goal.{ofSort}
 use Rattle.layout.proofs.Made.{FineMade, foundMade, fine-parts, found-make}
 use Rattle.layout.proofs.Agree.{Alike}
-use Rattle.smtlib.specs.Tokens.{Atom, symbol, reserved, numeral, hexadecimal, binary, keyword, same}
+use Rattle.lists.specs.Names.{sameBytes}
+use Rattle.smtlib.specs.Tokens.{Atom, symbol, reserved, numeral, hexadecimal, binary, keyword}
 use Rattle.smtlib.specs.Sexps.{Sexp, atom, nil, cons, symbolIn, sexpsOf}
 use Rattle.smtlib.specs.Terms.{numberOf}
 use Rattle.smtlib.specs.Scripts.{Script}
 use Rattle.smtlib.specs.Satisfaction.{scriptOf}
 use Rattle.smtlib.proofs.Printing.{print-sexp}
 use Rattle.wording.specs.Words.{wordOf}
 use Rattle.wording.specs.Text.{text}
 use Rattle.wording.specs.Sixteen.{literal, symbolText}
 use Rattle.wording.specs.Script.{claims, script}
-use Rattle.wording.proofs.Sexps.{sexpBy, sexpStep, sexp, hexDigits, constant16, asked16}
-use Rattle.wording.proofs.Spelt.{text16-printed, printable16}
-use Rattle.wording.proofs.Read.{AllFine, claims-fine, hex-number, numberIn, symbol-number}
-use Rattle.wording.proofs.Forms.{script-read}
+use Rattle.forms.proofs.Sexps.{sexpBy, sexpStep, sexp, hexDigits, constant16, asked16}
+use Rattle.forms.proofs.Spelt.{text16-printed, printable16}
+use Rattle.forms.proofs.Read.{AllFine, claims-fine, hex-number, numberIn, symbol-number}
+use Rattle.forms.proofs.Forms.{script-read}
 
 -- ---- the tree that a term spells
 
@@ -64,7 +65,7 @@ sameSort (some Integer) (some Integer) = true
 -- the first of these kinds with this word and this first operand; a variable where there is none
 unfoldable kindIn : List Kind → List ℕ → Option Sort → Kind
 kindIn [] w o = VariableKind
-kindIn (k ∷ ks) w o = elim (same (wordOf k) w && sameSort (firstOf (row k .shape)) o) [ true ↦ k | false ↦ kindIn ks w o ]
+kindIn (k ∷ ks) w o = elim (sameBytes (wordOf k) w && sameSort (firstOf (row k .shape)) o) [ true ↦ k | false ↦ kindIn ks w o ]
 
 -- what a term may be read from: an integer, a variable's number, and operands
 abbrev Parts : Type 0
@@ -126,7 +127,7 @@ kindRead (Three s t u) w x = kindIn kinds w (some s)
 
 -- no two kinds have the same word and the same first operand
 kind-read : (k : Kind) (x : Args (row k .shape)) → kindRead (row k .shape) (wordOf k) x ≡ k
-unfolding kindIn symbolText
+unfolding kindIn sameBytes symbolText
 kind-read Unknown x = refl
 kind-read True x = refl
 kind-read False x = refl
