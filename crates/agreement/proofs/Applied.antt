@@ -170,7 +170,7 @@ sheetB =
     ++ block (17 ∷ 0 ∷ 0 ∷ 0 ∷ 0 ∷ 0 ∷ 0 ∷ 0 ∷ 0 ∷ 0 ∷ 0 ∷ 0 ∷ 0 ∷ 0 ∷ 0 ∷ 0 ∷ 17 ∷ 0 ∷ 1 ∷ 0 ∷ 0 ∷ 0 ∷ 0 ∷ 0 ∷ 0 ∷ 0 ∷ 0 ∷ 0 ∷ 0 ∷ 0 ∷ 0 ∷ 0 ∷ 8 ∷ 0 ∷ 0 ∷ 0 ∷ 1 ∷ []) 116 2
 
 pub computedA : Computed sheetA sheetB 4 2 2 (some (pos 0 ∷ pos 1 ∷ []))
-unfolding value sizeOf casesOf holds failures firstFailure held failed treeAt allBelow below course first enc dec isNarrow hasNarrowEnds leastOf greatestOf find kindOf weighted checkOf blockRight startAt ofTree ofNode lengthRight early zeros countsRight tailClear outsideClear header isLetter isNameByte allNameBytes nameRight sameBytes variableRight fresh findingOf placed typed nodeRefusal nodes refusalOf wordOf hexDigit hexText literal symbolText joined script
+unfolding value sizeOf casesOf holds failures firstFailure held failed treeAt allBelow below course first enc dec isNarrow hasNarrowEnds leastOf greatestOf find kindOf weighted checkOf blockRight startAt ofTree ofNode lengthRight early zeros countsRight tailClear outsideClear header isLetter isNameByte allNameBytes nameRight sameBytes variableRight fresh findingOf placed typed nodeRefusal nodes refusalOf hexDigit hexText literal symbolText joined script
 computedA = record {
   bytes = refl;
   other-bytes = refl;
@@ -195,7 +195,7 @@ sheet11-renamed =
     ++ block (17 ∷ 0 ∷ 0 ∷ 0 ∷ 0 ∷ 0 ∷ 0 ∷ 0 ∷ 0 ∷ 0 ∷ 0 ∷ 0 ∷ 0 ∷ 0 ∷ 0 ∷ 0 ∷ 17 ∷ 0 ∷ 1 ∷ 0 ∷ 0 ∷ 0 ∷ 0 ∷ 0 ∷ 0 ∷ 0 ∷ 0 ∷ 0 ∷ 0 ∷ 0 ∷ 0 ∷ 0 ∷ 21 ∷ 0 ∷ 0 ∷ 0 ∷ 1 ∷ 0 ∷ 0 ∷ 0 ∷ 0 ∷ 0 ∷ 0 ∷ 0 ∷ 0 ∷ 0 ∷ 0 ∷ 0 ∷ 16 ∷ 0 ∷ 0 ∷ 0 ∷ 0 ∷ 0 ∷ 0 ∷ 0 ∷ 12 ∷ 0 ∷ 0 ∷ 0 ∷ 0 ∷ 0 ∷ 0 ∷ 0 ∷ 10 ∷ 0 ∷ 2 ∷ 0 ∷ 3 ∷ []) 188 13
 
 pub computed11 : Computed sheet11 sheet11-renamed 60 60 0 none
-unfolding value sizeOf casesOf holds failures firstFailure held failed treeAt allBelow below course first enc dec isNarrow hasNarrowEnds leastOf greatestOf find kindOf weighted checkOf blockRight startAt ofTree ofNode lengthRight early zeros countsRight tailClear outsideClear header isLetter isNameByte allNameBytes nameRight sameBytes variableRight fresh findingOf placed typed nodeRefusal nodes refusalOf wordOf hexDigit hexText literal symbolText joined script
+unfolding value sizeOf casesOf holds failures firstFailure held failed treeAt allBelow below course first enc dec isNarrow hasNarrowEnds leastOf greatestOf find kindOf weighted checkOf blockRight startAt ofTree ofNode lengthRight early zeros countsRight tailClear outsideClear header isLetter isNameByte allNameBytes nameRight sameBytes variableRight fresh findingOf placed typed nodeRefusal nodes refusalOf hexDigit hexText literal symbolText joined script
 computed11 = record {
   bytes = refl;
   other-bytes = refl;

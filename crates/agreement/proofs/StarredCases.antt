@@ -30,5 +30,5 @@ use Rattle.writer.specs.Writes.{scriptRefusal}
 use Rattle.agreement.specs.Starred.{table, run}
 
 pub starred : map run table ≡ table
-unfolding value sizeOf casesOf holds failures firstFailure held failed treeAt allBelow below course first enc dec isNarrow hasNarrowEnds leastOf greatestOf find kindOf weighted checkOf blockRight startAt ofTree ofNode lengthRight early zeros countsRight tailClear outsideClear header isLetter isNameByte allNameBytes nameRight sameBytes variableRight fresh findingOf placed typed nodeRefusal nodes refusalOf wordOf hexDigit hexText literal symbolText joined script checkRefusal scriptRefusal over
+unfolding value sizeOf casesOf holds failures firstFailure held failed treeAt allBelow below course first enc dec isNarrow hasNarrowEnds leastOf greatestOf find kindOf weighted checkOf blockRight startAt ofTree ofNode lengthRight early zeros countsRight tailClear outsideClear header isLetter isNameByte allNameBytes nameRight sameBytes variableRight fresh findingOf placed typed nodeRefusal nodes refusalOf hexDigit hexText literal symbolText joined script checkRefusal scriptRefusal over
 starred = refl

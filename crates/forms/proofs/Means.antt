@@ -94,7 +94,7 @@ coded w Integer z = bits w (enc w z)
 
 module _ {w v : ℕ} {constant : ℤ → Atom} {name : ℕ → List ℕ} {ρ : ℕ → ℤ} {env : Environment} (one : 1 ≤ w) (h : Holding w v constant name ρ env) where
   pub means : {s : Sort} (t : Tree s) → Throughout (NoWrap w ρ) t → Throughout (Below v) t → value env (sexp constant name t) ≡ coded w s (meant ρ t)
-  unfolding ofTree by-rows Throughout wordOf meant sameBytes function functions
+  unfolding ofTree by-rows Throughout meant sameBytes function functions
   means tru k l = value-constant env (ascii "true") refl
   means fls k l = value-constant env (ascii "false") refl
   means (neg a) k l = value-truths1 env (ascii "not") refl _ (means a (k .1) (l .1))

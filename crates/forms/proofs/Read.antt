@@ -90,7 +90,7 @@ module _ (constant : ℤ → Atom) (name : ℕ → List ℕ) (w v : ℕ) (env : 
 
   -- each word's function takes and gives what the kind's row says
   kind-sorted : (k : Kind) (x : Found Sexp (row k .shape)) → Operands (row k .shape) x → Has env (sortFor w (row k .gives)) (sexpStep constant name k x)
-  unfolding sameBytes wordOf function functions
+  unfolding sameBytes function functions
   kind-sorted Unknown x h = absurd h
   kind-sorted True x h = record { known = _; is = value-constant env _ refl }
   kind-sorted False x h = record { known = _; is = value-constant env _ refl }
@@ -245,7 +245,7 @@ module _ (constant : ℤ → Atom) (name : ℕ → List ℕ) where
       × (term (difference a b) ≡ call2 (ascii "bvsub") (term a) (term b))
       × (term (product a b) ≡ call2 (ascii "bvmul") (term a) (term b))
       × (term (ite p a b) ≡ call3 (ascii "ite") (term p) (term a) (term b))
-  unfolding ofTree wordOf
+  unfolding ofTree
   operators p q a b z i = (refl, refl, refl, refl, refl, refl, refl, refl, refl, refl, refl, refl, refl, refl, refl, refl, refl)
 
   -- (and (bvsle MIN NAME) (bvsle NAME MAX))
@@ -259,7 +259,7 @@ module _ (constant : ℤ → Atom) (name : ℕ → List ℕ) where
 
   -- a range for each variable, and then the negated goal
   pub asserts-are : (w : ℕ) (r : Rule) → asked constant name w r .asserts ≡ ranges 0 (r .variables) ++ (call1 (ascii "not") (term (r .goal)) ∷ [])
-  unfolding ofTree wordOf
+  unfolding ofTree
   asserts-are w r = from 0 (r .variables)
     where
       from : (i : ℕ) (vs : List Variable) → map (λ (t : Tree Truth). term t) (claims i vs (r .goal)) ≡ ranges i vs ++ (call1 (ascii "not") (term (r .goal)) ∷ [])

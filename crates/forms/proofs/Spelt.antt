@@ -49,7 +49,7 @@ Worded (Two s t) = Unit {0}
 Worded (Three s t u) = Unit {0}
 
 word-spelled : (k : Kind) → Worded (row k .shape) → Spelled (symbol (wordOf k))
-unfolding sameBytes wordOf every letterChar digitChar symbolChar reservedWords
+unfolding sameBytes every letterChar digitChar symbolChar reservedWords
 word-spelled Unknown q = absurd q
 word-spelled True q = spelled-symbol _ refl refl
 word-spelled False q = spelled-symbol _ refl refl

@@ -51,7 +51,7 @@ readA = record {
 }
 
 askedA : asked16 ruleA ≡ readA
-unfolding ofTree wordOf constant16 symbolText enc
+unfolding ofTree constant16 symbolText enc
 askedA = refl
 
 -- by the theorem, and by computation
@@ -64,11 +64,11 @@ read-computed = refl
 
 -- (0, 1) satisfies it, and (1, 1) does not
 metA : Satisfies (script ruleA) (0 ∷ 1 ∷ [])
-unfolding scriptRead ofTree wordOf constant16 symbolText enc
+unfolding scriptRead ofTree constant16 symbolText enc
 metA = script-satisfied ruleA wellA (0 ∷ 1 ∷ []) .1 (meets-test (asked16 ruleA) (0 ∷ 1 ∷ []) .1 refl)
 
 unmetA : Satisfies (script ruleA) (1 ∷ 1 ∷ []) → ⊥
-unfolding scriptRead ofTree wordOf constant16 symbolText enc
+unfolding scriptRead ofTree constant16 symbolText enc
 unmetA k = false≢true (meets-test (asked16 ruleA) (1 ∷ 1 ∷ []) .0 (script-satisfied ruleA wellA (1 ∷ 1 ∷ []) .0 k))
 
 -- in any setting v1 stands for the second number, and the goal's term has sort Bool
@@ -86,7 +86,7 @@ goal-printable : Printable (sexp constant16 symbolText (ruleA .goal))
 goal-printable = printable16 (ruleA .goal)
 
 same-goal : (t : Tree Truth) → Fine 2 t → text16 t ≡ ascii "(= v0 v1)" → t ≡ equal (var 0) (var 1)
-unfolding ofTree wordOf symbolText
+unfolding ofTree symbolText
 same-goal t f e = same-tree (lit≤ tt) (lit≤ tt) f (wellA .goal) e
 
 apart : text16 (iff tru fls) ≡ text16 (ruleA .goal) → ⊥

@@ -26,7 +26,7 @@ unfolding rangeStart
 start-length low i = simp (length-append, hex-length) (omega arith)
 
 pub range-length : (s : List ℕ) (i : ℕ) → length (rangeLine s i) ≡ rangeBytes i
-unfolding rangeLine ofTree wordOf
+unfolding rangeLine ofTree
 range-length s i = simp (length-append, literal-length) (omega arith)
 
 symbol-next : (i : ℕ) → length (symbolText i) + (i - 10) ≡ 2 + (suc i - 10)
@@ -60,7 +60,7 @@ flat-line : (a o w p q b l v h e n : List ℕ)
 flat-line a o w p q b l v h e n = simp append-assoc
 
 range-is : (s : List ℕ) → Bytes s → (i : ℕ) → rangeStart (u16At s (variablePlace i)) i ++ rangeEnd i (u16At s (variablePlace i + 2)) ≡ rangeLine s i
-unfolding rangeStart rangeEnd rangeLine literal ofTree wordOf
+unfolding rangeStart rangeEnd rangeLine literal ofTree
 range-is s b i = rw (enc16-dec16 (u16-lt s b (variablePlace i)), enc16-dec16 (u16-lt s b (variablePlace i + 2)))
     (flat-parts (ascii "(assert (and (bvsle ") (hexText (u16At s (variablePlace i))) (ascii " ") (symbolText i) (ascii ") (bvsle ") (ascii " ") (hexText (u16At s (variablePlace i + 2))) (ascii ")))\n")
     ∙ sym (flat-line (ascii "(assert ") (ascii "(") (ascii "and") (ascii "bvsle") (ascii "bvsle") (ascii " ") (hexText (u16At s (variablePlace i))) (symbolText i) (hexText (u16At s (variablePlace i + 2))) (ascii ")") (ascii "\n")))

@@ -55,11 +55,11 @@ integers =
     ∷ []
 
 truth-texts : map (λ r. text16 (r .0)) truths ≡ map (λ r. ascii (r .1)) truths
-unfolding ofTree wordOf symbolText
+unfolding ofTree symbolText
 truth-texts = refl
 
 integer-texts : map (λ r. text16 (r .0)) integers ≡ map (λ r. ascii (r .1)) integers
-unfolding ofTree wordOf symbolText literal hexText hexDigit enc
+unfolding ofTree symbolText literal hexText hexDigit enc
 integer-texts = refl
 
 -- -1 and -32,768
@@ -84,7 +84,7 @@ bytesA =
     ++ ascii "(exit)\n"))))))
 
 pub scriptA : script ruleA ≡ bytesA
-unfolding script joined ofTree wordOf symbolText literal hexText hexDigit enc
+unfolding script joined ofTree symbolText literal hexText hexDigit enc
 scriptA = refl
 
 pub lengthA : length (script ruleA) ≡ 234

@@ -85,7 +85,7 @@ module _ (s : List ℕ) (e : refusalOf s ≡ none) where
   goal-text = sym (goal-found (textStep literal symbolText) [] (table s) (accepted-sound s e))
 
   goal-is : negated s ++ ascii "(check-sat)\n(exit)\n" ≡ goalLines s
-  unfolding goalLines ofTree wordOf
+  unfolding goalLines ofTree
   goal-is =
       flat-goal (ascii "(assert ") (ascii "(") (ascii "not") (ascii " ") (text literal symbolText (ruleIn s .goal)) (ascii ")") (ascii "\n") (ascii "(check-sat)\n(exit)\n")
       ∙ ap (λ (t : List ℕ). ascii "(assert (not " ++ (t ++ ascii "))\n(check-sat)\n(exit)\n")) goal-text
