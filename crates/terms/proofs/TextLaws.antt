@@ -120,7 +120,7 @@ module _ {s : List ℕ} where
   short-below (suc m) n h ok =
       let p = placed ok in
       rw (from-record ok, start-is (table s) n (lower p))
-      (bound (shapeAt (table s n)) (table s n) (wordOf (table s n .kind)) n (textAt s) (startAt (table s)) (word-short _) (p .ordered) (lower p)
+      (bound (shapeAt (table s n)) (table s n) (wordOf (table s n .kind)) n (textAt s) (startAt (table s)) (word-short (table s n .kind)) (p .ordered) (lower p)
       (λ j l. short-below m j (omega arith) (record { accepted = ok .accepted; below = omega (arith, ok .below) })))
 
   pub text-short : {n : ℕ} → Ready s n → length (textAt s n) ≤ longestText
