@@ -14,7 +14,7 @@ use Rattle.numbers.proofs.Coding.{enc-lt, enc-inj}
 use Rattle.numbers.proofs.Modular.{enc-neg, enc-add, enc-sub, enc-mul, less-is, most-is}
 use Rattle.meaning.specs.declared.Sort.{Sort}
 use Rattle.meaning.specs.declared.Sort.the-variants.{Truth, Integer}
-use Rattle.meaning.specs.Tree.{Tree, tru, fls, neg, conj, disj, implies, iff, equal, less, atMost, const, var, minus, sum, difference, product, ite}
+use Rattle.meaning.specs.Tree.{Tree}
 use Rattle.meaning.specs.Value.{Of, implied, equivalent, equals, chosen, value as meant}
 use Rattle.meaning.proofs.Equals.{equals-same, equals-false}
 use Rattle.kinds.proofs.RowLaws.{by-rows}
@@ -95,33 +95,33 @@ coded w Integer z = bits w (enc w z)
 module _ {w v : ℕ} {constant : ℤ → Atom} {name : ℕ → List ℕ} {ρ : ℕ → ℤ} {env : Environment} (one : 1 ≤ w) (h : Holding w v constant name ρ env) where
   pub means : {s : Sort} (t : Tree s) → Throughout (NoWrap w ρ) t → Throughout (Below v) t → value env (sexp constant name t) ≡ coded w s (meant ρ t)
   unfolding ofTree by-rows Throughout meant sameBytes function functions
-  means tru k l = value-constant env (ascii "true") refl
-  means fls k l = value-constant env (ascii "false") refl
-  means (neg a) k l = value-truths1 env (ascii "not") refl _ (means a (k .1) (l .1))
-  means (conj a b) k l = value-left env (ascii "and") _ _ refl (means a (k .1 .0) (l .1 .0)) (means b (k .1 .1) (l .1 .1))
-  means (disj a b) k l = value-left env (ascii "or") _ _ refl (means a (k .1 .0) (l .1 .0)) (means b (k .1 .1) (l .1 .1))
-  means (implies a b) k l =
+  means Tree.tru k l = value-constant env (ascii "true") refl
+  means Tree.fls k l = value-constant env (ascii "false") refl
+  means (Tree.neg a) k l = value-truths1 env (ascii "not") refl _ (means a (k .1) (l .1))
+  means (Tree.conj a b) k l = value-left env (ascii "and") _ _ refl (means a (k .1 .0) (l .1 .0)) (means b (k .1 .1) (l .1 .1))
+  means (Tree.disj a b) k l = value-left env (ascii "or") _ _ refl (means a (k .1 .0) (l .1 .0)) (means b (k .1 .1) (l .1 .1))
+  means (Tree.implies a b) k l =
       value-right env (ascii "=>") _ _ refl (means a (k .1 .0) (l .1 .0)) (means b (k .1 .1) (l .1 .1)) ∙ ap truth (implies-is (meant ρ a) (meant ρ b))
-  means (iff a b) k l =
+  means (Tree.iff a b) k l =
       value-relation env (ascii "=") _ _ refl bool _ _ (means a (k .1 .0) (l .1 .0)) (means b (k .1 .1) (l .1 .1)) ∙ ap truth (iff-is (meant ρ a) (meant ρ b))
-  means (equal a b) k l =
+  means (Tree.equal a b) k l =
       value-relation env (ascii "=") _ _ refl (bitVec w) _ _ (means a (k .1 .0) (l .1 .0)) (means b (k .1 .1) (l .1 .1))
       ∙ ap truth (equal-is one (own (NoWrap w ρ) a (k .1 .0)) (own (NoWrap w ρ) b (k .1 .1)))
-  means (less a b) k l =
+  means (Tree.less a b) k l =
       value-order env (ascii "bvslt") _ _ refl (means a (k .1 .0) (l .1 .0)) (means b (k .1 .1) (l .1 .1))
       ∙ ap truth (slt-is one (own (NoWrap w ρ) a (k .1 .0)) (own (NoWrap w ρ) b (k .1 .1)))
-  means (atMost a b) k l =
+  means (Tree.atMost a b) k l =
       value-order env (ascii "bvsle") _ _ refl (means a (k .1 .0) (l .1 .0)) (means b (k .1 .1) (l .1 .1))
       ∙ ap truth (sle-is one (own (NoWrap w ρ) a (k .1 .0)) (own (NoWrap w ρ) b (k .1 .1)))
-  means (const z) k l = h .constants z (k .0)
-  means (var i) k l = h .symbols i (l .0 i refl)
-  means (minus a) k l = value-vectors1 env (ascii "bvneg") refl _ (means a (k .1) (l .1)) ∙ ap (bits w) (neg-is w (meant ρ a))
-  means (sum a b) k l =
+  means (Tree.const z) k l = h .constants z (k .0)
+  means (Tree.var i) k l = h .symbols i (l .0 i refl)
+  means (Tree.minus a) k l = value-vectors1 env (ascii "bvneg") refl _ (means a (k .1) (l .1)) ∙ ap (bits w) (neg-is w (meant ρ a))
+  means (Tree.sum a b) k l =
       value-vectors2 env (ascii "bvadd") _ _ _ refl (means a (k .1 .0) (l .1 .0)) (means b (k .1 .1) (l .1 .1)) ∙ ap (bits w) (add-is w (meant ρ a) (meant ρ b))
-  means (difference a b) k l =
+  means (Tree.difference a b) k l =
       value-vectors2 env (ascii "bvsub") _ _ _ refl (means a (k .1 .0) (l .1 .0)) (means b (k .1 .1) (l .1 .1)) ∙ ap (bits w) (sub-is w (meant ρ a) (meant ρ b))
-  means (product a b) k l =
+  means (Tree.product a b) k l =
       value-vectors2 env (ascii "bvmul") _ _ _ refl (means a (k .1 .0) (l .1 .0)) (means b (k .1 .1) (l .1 .1)) ∙ ap (bits w) (mul-is w (meant ρ a) (meant ρ b))
-  means (ite c a b) k l =
+  means (Tree.ite c a b) k l =
       value-choice env (ascii "ite") _ _ refl _ (bitVec w) _ _ (means c (k .1 .0) (l .1 .0)) (means a (k .1 .1) (l .1 .1)) (means b (k .1 .2) (l .1 .2))
       ∙ ap (bits w) (ite-is w (meant ρ c) (meant ρ a) (meant ρ b))

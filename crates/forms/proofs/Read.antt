@@ -19,10 +19,9 @@ use Rattle.numbers.specs.Two.{enc}
 use Rattle.numbers.proofs.Bytes16.{enc16-lt}
 use Rattle.meaning.specs.declared.Sort.{Sort}
 use Rattle.meaning.specs.declared.Sort.the-variants.{Truth, Integer}
-use Rattle.meaning.specs.Tree.{Tree, tru, fls, neg, conj, disj, implies, iff, equal, less, atMost, const, var, minus, sum, difference, product, ite}
+use Rattle.meaning.specs.Tree.{Tree}
 use Rattle.meaning.specs.Rule.{Variable, Rule, noVariable}
 use Rattle.kinds.specs.declared.Kind.{Kind}
-use Rattle.kinds.specs.declared.Kind.the-variants.{Unknown, True, False, Not, And, Or, Implies, Iff, Equal, Less, AtMost, Constant, Variable as VariableKind, Minus, Sum, Difference, Product, If}
 use Rattle.kinds.specs.declared.Shape.{Shape}
 use Rattle.kinds.specs.declared.Shape.the-variants.{Wrong, Bare, Valued, Named, One, Two, Three}
 use Rattle.kinds.specs.Kinds.{Args, row}
@@ -47,7 +46,7 @@ use Rattle.wording.specs.Words.{wordOf}
 use Rattle.wording.specs.Sixteen.{symbolText}
 use Rattle.wording.specs.Script.{claims}
 use Rattle.forms.specs.Form.{Texts}
-use Rattle.forms.proofs.Sexps.{sexpStep, sexp, declareSexp, declareChain, assertChain, chainOf, declares, asked, hexDigits, constant16, width16}
+use Rattle.forms.proofs.Sexps.{sexpBy, sexpStep, sexp, declareSexp, declareChain, assertChain, chainOf, declares, asked, hexDigits, constant16, width16}
 
 -- ---- the claims are as fine as the rule
 abbrev pub AllFine : ℕ → List (Tree Truth) → Type 0
@@ -91,24 +90,24 @@ module _ (constant : ℤ → Atom) (name : ℕ → List ℕ) (w v : ℕ) (env : 
   -- each word's function takes and gives what the kind's row says
   kind-sorted : (k : Kind) (x : Found Sexp (row k .shape)) → Operands (row k .shape) x → Has env (sortFor w (row k .gives)) (sexpStep constant name k x)
   unfolding sameBytes function functions
-  kind-sorted Unknown x h = absurd h
-  kind-sorted True x h = record { known = _; is = value-constant env _ refl }
-  kind-sorted False x h = record { known = _; is = value-constant env _ refl }
-  kind-sorted Not x h = record { known = _; is = value-truths1 env _ refl x (h .is) }
-  kind-sorted And x h = record { known = _; is = value-left env _ _ _ refl (h .0 .is) (h .1 .is) }
-  kind-sorted Or x h = record { known = _; is = value-left env _ _ _ refl (h .0 .is) (h .1 .is) }
-  kind-sorted Implies x h = record { known = _; is = value-right env _ _ _ refl (h .0 .is) (h .1 .is) }
-  kind-sorted Iff x h = record { known = _; is = value-relation env _ _ _ refl bool _ _ (h .0 .is) (h .1 .is) }
-  kind-sorted Equal x h = record { known = _; is = value-relation env _ _ _ refl (bitVec w) _ _ (h .0 .is) (h .1 .is) }
-  kind-sorted Less x h = record { known = _; is = value-order env _ _ _ refl (h .0 .is) (h .1 .is) }
-  kind-sorted AtMost x h = record { known = _; is = value-order env _ _ _ refl (h .0 .is) (h .1 .is) }
-  kind-sorted Constant x h = constants x
-  kind-sorted VariableKind x h = symbols x h
-  kind-sorted Minus x h = record { known = _; is = value-vectors1 env _ refl x (h .is) }
-  kind-sorted Sum x h = record { known = _; is = value-vectors2 env _ _ _ _ refl (h .0 .is) (h .1 .is) }
-  kind-sorted Difference x h = record { known = _; is = value-vectors2 env _ _ _ _ refl (h .0 .is) (h .1 .is) }
-  kind-sorted Product x h = record { known = _; is = value-vectors2 env _ _ _ _ refl (h .0 .is) (h .1 .is) }
-  kind-sorted If x h = record { known = _; is = value-choice env _ _ _ refl _ (bitVec w) _ _ (h .0 .is) (h .1 .is) (h .2 .is) }
+  kind-sorted Kind.Unknown x h = absurd h
+  kind-sorted Kind.True x h = record { known = _; is = value-constant env _ refl }
+  kind-sorted Kind.False x h = record { known = _; is = value-constant env _ refl }
+  kind-sorted Kind.Not x h = record { known = _; is = value-truths1 env _ refl x (h .is) }
+  kind-sorted Kind.And x h = record { known = _; is = value-left env _ _ _ refl (h .0 .is) (h .1 .is) }
+  kind-sorted Kind.Or x h = record { known = _; is = value-left env _ _ _ refl (h .0 .is) (h .1 .is) }
+  kind-sorted Kind.Implies x h = record { known = _; is = value-right env _ _ _ refl (h .0 .is) (h .1 .is) }
+  kind-sorted Kind.Iff x h = record { known = _; is = value-relation env _ _ _ refl bool _ _ (h .0 .is) (h .1 .is) }
+  kind-sorted Kind.Equal x h = record { known = _; is = value-relation env _ _ _ refl (bitVec w) _ _ (h .0 .is) (h .1 .is) }
+  kind-sorted Kind.Less x h = record { known = _; is = value-order env _ _ _ refl (h .0 .is) (h .1 .is) }
+  kind-sorted Kind.AtMost x h = record { known = _; is = value-order env _ _ _ refl (h .0 .is) (h .1 .is) }
+  kind-sorted Kind.Constant x h = constants x
+  kind-sorted Kind.Variable x h = symbols x h
+  kind-sorted Kind.Minus x h = record { known = _; is = value-vectors1 env _ refl x (h .is) }
+  kind-sorted Kind.Sum x h = record { known = _; is = value-vectors2 env _ _ _ _ refl (h .0 .is) (h .1 .is) }
+  kind-sorted Kind.Difference x h = record { known = _; is = value-vectors2 env _ _ _ _ refl (h .0 .is) (h .1 .is) }
+  kind-sorted Kind.Product x h = record { known = _; is = value-vectors2 env _ _ _ _ refl (h .0 .is) (h .1 .is) }
+  kind-sorted Kind.If x h = record { known = _; is = value-choice env _ _ _ refl _ (bitVec w) _ _ (h .0 .is) (h .1 .is) (h .2 .is) }
 
   abbrev SortedTree : (s : Sort) → Tree s → Type 0
   SortedTree s t = Fine v t → Has env (sortFor w s) (sexp constant name t)
@@ -226,27 +225,9 @@ module _ (constant : ℤ → Atom) (name : ℕ → List ℕ) where
   abbrev term : {s : Sort} → Tree s → Sexp
   term t = sexp constant name t
 
-  -- a tree's term has the tree's operators
-  pub operators : (p q : Tree Truth) (a b : Tree Integer) (z : ℤ) (i : ℕ)
-      → (term tru ≡ atom (symbol (ascii "true")))
-      × (term fls ≡ atom (symbol (ascii "false")))
-      × (term (neg p) ≡ call1 (ascii "not") (term p))
-      × (term (conj p q) ≡ call2 (ascii "and") (term p) (term q))
-      × (term (disj p q) ≡ call2 (ascii "or") (term p) (term q))
-      × (term (implies p q) ≡ call2 (ascii "=>") (term p) (term q))
-      × (term (iff p q) ≡ call2 (ascii "=") (term p) (term q))
-      × (term (equal a b) ≡ call2 (ascii "=") (term a) (term b))
-      × (term (less a b) ≡ call2 (ascii "bvslt") (term a) (term b))
-      × (term (atMost a b) ≡ call2 (ascii "bvsle") (term a) (term b))
-      × (term (const z) ≡ atom (constant z))
-      × (term (var i) ≡ atom (symbol (name i)))
-      × (term (minus a) ≡ call1 (ascii "bvneg") (term a))
-      × (term (sum a b) ≡ call2 (ascii "bvadd") (term a) (term b))
-      × (term (difference a b) ≡ call2 (ascii "bvsub") (term a) (term b))
-      × (term (product a b) ≡ call2 (ascii "bvmul") (term a) (term b))
-      × (term (ite p a b) ≡ call3 (ascii "ite") (term p) (term a) (term b))
-  unfolding ofTree
-  operators p q a b z i = (refl, refl, refl, refl, refl, refl, refl, refl, refl, refl, refl, refl, refl, refl, refl, refl, refl)
+  -- a tree's term is made of its kind's word and the operands' terms
+  pub operators : (k : Kind) → Known (row k .shape) → (x : Args (row k .shape)) → term (make k x) ≡ sexpBy constant name (row k .shape) (row k .word) (foundMade (sexpStep constant name) (row k .shape) x)
+  operators k q x = found-make k q x (sexpStep constant name)
 
   -- (and (bvsle MIN NAME) (bvsle NAME MAX))
   abbrev pub rangeSexp : ℕ → Range → Sexp

@@ -110,7 +110,8 @@ leafBytes (One s) b = true
 leafBytes (Two s t) b = true
 leafBytes (Three s t u) b = true
 
-same-byte : {k j : Kind} → eqb (row k .byte) (row j .byte) ≡ true → k ≡ j
+-- two kinds with one byte are the same
+pub same-byte : {k j : Kind} → eqb (row k .byte) (row j .byte) ≡ true → k ≡ j
 same-byte {k} {j} e = sym (byte-names k) ∙ ap kindOf (eqb-true _ _ e) ∙ byte-names j
 
 leaf-bytes : (k : Kind) → leafBytes (row k .shape) (row k .byte) ≡ true
