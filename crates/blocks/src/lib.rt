@@ -2,8 +2,8 @@
 ghost use mathlib.Core.Path.{_≡_};
 ghost use Prim.Native.Nat.{_+_, _*_, _≤_, _<_, _^_};
 ghost use lib.ListN.{length};
-ghost use Rattle.numbers.specs.Bytes.{byteAt};
-ghost use Rattle.layout.specs.Limits.{contentBytes};
+ghost use Rattle.numbers.specs.Bytes.{mostByte, byteAt};
+ghost use Rattle.layout.specs.Limits.{blockBytes, contentBytes};
 ghost use Rattle.layout.specs.Checks.{checkOf, blockRight, Inside};
 ghost use Rattle.refusals.specs.Said.{saidOf};
 ghost use Rattle.blocks.specs.Block.{BlockPart};
@@ -18,14 +18,14 @@ use refusals::Refusal;
 // A content byte times its weight.
 fn weighed(content: &[u8], i: usize) -> usize
     requires { ⌜ (i < length (now content)) × (i < contentBytes) ⌝ }
-    ensures { λ r. ⌜ (r ≡ (i + 1) * byteAt (now (content .entry)) i) × (r ≤ contentBytes * 255) ⌝ }
+    ensures { λ r. ⌜ (r ≡ (i + 1) * byteAt (now (content .entry)) i) × (r ≤ contentBytes * mostByte) ⌝ }
 {
     (i + 1) * (content[i] as usize)
 }
 
 // The check of block k with this content.
 fn check_of(k: usize, content: &[u8]) -> usize
-    requires { ⌜ (k < 2 ^ 55) × (length (now content) ≤ contentBytes) ⌝ }
+    requires { ⌜ (blockBytes * k < 2 ^ 64) × (length (now content) ≤ contentBytes) ⌝ }
     ensures { λ r. ⌜ r ≡ checkOf k (now (content .entry)) ⌝ }
 {
     let mut sum: usize = (k + 1) % MODULUS;

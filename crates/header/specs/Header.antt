@@ -10,7 +10,7 @@ use Rattle.lists.specs.Places.{allBelow}
 use Rattle.lists.specs.First.{_otherwise_}
 use Rattle.refusals.specs.declared.Refusal.{Refusal}
 use Rattle.numbers.specs.Bytes.{byteAt}
-use Rattle.layout.specs.Limits.{blockBytes, contentBytes, mostVariables, mostNodes, blocksFor, variablePlace}
+use Rattle.layout.specs.Limits.{blockBytes, contentBytes, headerGap, headerGapBytes, mostVariables, mostNodes, blocksFor, variablePlace}
 use Rattle.layout.specs.Parts.{edition, nodeCount, variableCount, usedInNodeBlock}
 use Rattle.refusals.specs.Said.{unless}
 
@@ -31,9 +31,9 @@ usedIn s (suc b) = usedInNodeBlock s b
 unfoldable pub tailClear : List ℕ → ℕ → Bool
 tailClear s k = zeros s (blockBytes * k + usedIn s k) (contentBytes - usedIn s k)
 
--- the bytes outside the records are zero: 5 to 7, and the tail of every block
+-- the bytes outside the records are zero: those behind the counts, and the tail of every block
 unfoldable pub outsideClear : List ℕ → Bool
-outsideClear s = zeros s 5 3 && allBelow (tailClear s) (blocksFor (nodeCount s) + 1)
+outsideClear s = zeros s headerGap headerGapBytes && allBelow (tailClear s) (blocksFor (nodeCount s) + 1)
 
 unfoldable pub header : List ℕ → Option Refusal
 header s = unless (eqb (edition s) 1) 3 0 otherwise unless (countsRight s && outsideClear s) 4 0

@@ -10,32 +10,32 @@ use Rattle.numbers.specs.Ranges.{_⋯_}
 use Rattle.meaning.specs.Rule.{Variable, Rule}
 use Rattle.kinds.specs.declared.Record.{Record}
 use Rattle.kinds.specs.Kinds.{kindOf}
-use Rattle.layout.specs.Limits.{blockBytes, contentBytes, mostNameBytes, nameStart, nameField, mostVariables, nodeBytes, nodesInBlock, mostNodes, blocksFor, variablePlace, nodePlace}
+use Rattle.layout.specs.Limits.{blockBytes, contentBytes, editionOffset, nodeCountOffset, variableCountOffset, headerGap, headerGapBytes, mostVariables, maxOffset, nameSizeOffset, zeroOffset, nameStart, mostNameBytes, nameField, nodeBytes, spareOffset, aOffset, bOffset, cOffset, valueOffset, spareStart, nodesInBlock, mostNodes, blocksFor, variablePlace, nodePlace}
 use Rattle.layout.specs.Checks.{blockRight}
 use Rattle.layout.specs.Goal.{goalOf, Sound}
 
 -- block 0: edition, node count N and variable count V
 abbrev pub edition : List ℕ → ℕ
-edition s = u16At s 0
+edition s = u16At s editionOffset
 
 abbrev pub nodeCount : List ℕ → ℕ
-nodeCount s = u16At s 2
+nodeCount s = u16At s nodeCountOffset
 
 abbrev pub variableCount : List ℕ → ℕ
-variableCount s = byteAt s 4
+variableCount s = byteAt s variableCountOffset
 
 -- the variable whose record stands at place i
 abbrev pub nameSize : List ℕ → ℕ → ℕ
-nameSize s i = byteAt s (i + 4)
+nameSize s i = byteAt s (i + nameSizeOffset)
 
 abbrev pub zeroByte : List ℕ → ℕ → ℕ
-zeroByte s i = byteAt s (i + 5)
+zeroByte s i = byteAt s (i + zeroOffset)
 
 abbrev pub nameIn : List ℕ → ℕ → List ℕ
 nameIn s i = take (nameSize s i) (drop (i + nameStart) s)
 
 abbrev pub variableIn : List ℕ → ℕ → Variable
-variableIn s i = record { name = nameIn s i; domain = i16At s i ⋯ i16At s (i + 2) }
+variableIn s i = record { name = nameIn s i; domain = i16At s i ⋯ i16At s (i + maxOffset) }
 
 -- variable i
 abbrev pub variableAt : List ℕ → ℕ → Variable
@@ -45,11 +45,11 @@ variableAt s i = variableIn s (variablePlace i)
 abbrev pub recordIn : List ℕ → ℕ → Record
 recordIn s i = record {
   kind = kindOf (byteAt s i);
-  a = u16At s (i + 2);
-  b = u16At s (i + 4);
-  c = u16At s (i + 6);
-  value = u16At s (i + 8);
-  spare = byteAt s (i + 1) + byteAt s (i + 10) + byteAt s (i + 11) + byteAt s (i + 12) + byteAt s (i + 13) + byteAt s (i + 14) + byteAt s (i + 15);
+  a = u16At s (i + aOffset);
+  b = u16At s (i + bOffset);
+  c = u16At s (i + cOffset);
+  value = u16At s (i + valueOffset);
+  spare = byteAt s (i + spareOffset) + byteAt s (i + spareStart) + byteAt s (i + (spareStart + 1)) + byteAt s (i + (spareStart + 2)) + byteAt s (i + (spareStart + 3)) + byteAt s (i + (spareStart + 4)) + byteAt s (i + (spareStart + 5));
 }
 
 -- node n
@@ -82,7 +82,7 @@ pub record LaidOut (s : List ℕ) : Type 0 where
   pub first-edition : edition s ≡ 1
   pub few : variableCount s ≤ mostVariables
   pub most : nodeCount s ≤ mostNodes
-  pub gap : Zeros s 5 3
+  pub gap : Zeros s headerGap headerGapBytes
   pub tail : Zeros s (variablePlace (variableCount s)) (contentBytes - variablePlace (variableCount s))
   pub tails : (b : ℕ) → b < blocksFor (nodeCount s) → Zeros s (blockBytes * (b + 1) + usedInNodeBlock s b) (contentBytes - usedInNodeBlock s b)
   pub variables : (n : ℕ) → n < variableCount s → VariableLaidOut s (variablePlace n)

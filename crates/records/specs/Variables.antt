@@ -10,7 +10,7 @@ use Rattle.lists.specs.First.{first}
 use Rattle.lists.specs.Names.{sameBytes}
 use Rattle.refusals.specs.declared.Refusal.{Refusal}
 use Rattle.numbers.specs.Bytes.{i16At}
-use Rattle.layout.specs.Limits.{mostNameBytes, nameStart, nameField, variablePlace}
+use Rattle.layout.specs.Limits.{maxOffset, nameStart, mostNameBytes, nameField, variablePlace}
 use Rattle.layout.specs.Parts.{variableCount, nameSize, zeroByte, nameIn}
 use Rattle.refusals.specs.Said.{unless}
 use Rattle.header.specs.Header.{zeros}
@@ -34,7 +34,7 @@ nameRight (b ∷ bs) = isLetter b && allNameBytes bs
 -- the record at place i: min ≤ max, a name of 1 to 16 bytes that is a name, the zero byte, and zeros behind the name to the record's end
 unfoldable pub variableRight : List ℕ → ℕ → Bool
 variableRight s i =
-    leZ (i16At s i) (i16At s (i + 2))
+    leZ (i16At s i) (i16At s (i + maxOffset))
     && leb 1 (nameSize s i)
     && leb (nameSize s i) mostNameBytes
     && eqb (zeroByte s i) 0
