@@ -11,7 +11,7 @@ ghost use Rattle.blocks.specs.Early.{checksRefusal, early};
 use layout::BLOCK_BYTES;
 use layout::CONTENT_BYTES;
 use layout::MODULUS;
-use layout::MOST_BLOCKS;
+use layout::MOST_SHEET_BYTES;
 use refusals::Reading;
 use refusals::Refusal;
 
@@ -99,7 +99,7 @@ pub fn read_blocks(sheet: &[u8]) -> Reading
             place: 0,
         });
     }
-    if BLOCK_BYTES * MOST_BLOCKS < n {
+    if MOST_SHEET_BYTES < n {
         return Reading::Refused(Refusal {
             number: 1,
             place: 0,
