@@ -15,7 +15,8 @@ use Rattle.lists.specs.Places.{allBelow}
 use Rattle.lists.proofs.TestLaws.{both, and, all-true, all-of}
 use Rattle.refusals.specs.declared.Refusal.{Refusal}
 use Rattle.layout.specs.Limits.{blockBytes, contentBytes, headerGap, headerGapBytes, mostVariables, nodeBytes, mostNodes, blocksFor, variablePlace, nodePlace}
-use Rattle.layout.specs.Parts.{edition, nodeCount, variableCount, usedInNodeBlock, Zeros}
+use Rattle.layout.specs.Parts.{edition, nodeCount, variableCount}
+use Rattle.layout.specs.LaidOut.{Zeros, usedInNodeBlock}
 use Rattle.header.specs.Header.{zeros, countsRight, usedIn, tailClear, outsideClear, header, Counted}
 use Rattle.lists.proofs.BelowLaws.{all-stop}
 use Rattle.header.proofs.ZeroLaws.{zeros-at, zeros-of}

@@ -8,7 +8,8 @@ use native.Mathlib.Decide.{decLt}
 use native.Mathlib.Omega.{arith}
 use Rattle.numbers.specs.Bytes.{byteAt}
 use Rattle.layout.specs.Limits.{blockBytes, contentBytes, headerGap, headerGapBytes, variableBytes, mostVariables, nodeBytes, nodesInBlock, blocksFor, variablePlace, nodePlace}
-use Rattle.layout.specs.Parts.{nodeCount, variableCount, usedInNodeBlock, Zeros}
+use Rattle.layout.specs.Parts.{nodeCount, variableCount}
+use Rattle.layout.specs.LaidOut.{Zeros, usedInNodeBlock}
 use Rattle.header.specs.Header.{zeros, tailClear, outsideClear}
 use Rattle.header.specs.MustBeZero.{MustBeZero, header-bytes, variable-record, past-variables, node-record, past-nodes}
 use Rattle.lists.proofs.BelowLaws.{not-both, Lowest, lowest-of}

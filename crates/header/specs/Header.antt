@@ -11,7 +11,8 @@ use Rattle.lists.specs.First.{_otherwise_}
 use Rattle.refusals.specs.declared.Refusal.{Refusal}
 use Rattle.numbers.specs.Bytes.{byteAt}
 use Rattle.layout.specs.Limits.{blockBytes, contentBytes, headerGap, headerGapBytes, mostVariables, mostNodes, blocksFor, variablePlace}
-use Rattle.layout.specs.Parts.{edition, nodeCount, variableCount, usedInNodeBlock}
+use Rattle.layout.specs.Parts.{edition, nodeCount, variableCount}
+use Rattle.layout.specs.LaidOut.{usedInNodeBlock}
 use Rattle.refusals.specs.Said.{unless}
 
 -- the n bytes from i on are zero

@@ -18,7 +18,8 @@ use Rattle.kinds.specs.Rows.{Known}
 use Rattle.layout.specs.Limits.{blockBytes, contentBytes, variableBytes, nameStart, nameField, nodeBytes, nodesInBlock, blocksFor, variablePlace, nodePlace}
 use Rattle.layout.specs.Checks.{content, sealed}
 use Rattle.layout.specs.Starts.{shapeAt}
-use Rattle.layout.specs.Parts.{nodeCount, variableCount, nameSize, nameIn, variableIn, variableAt, recordIn, table, ruleIn, Zeros, VariableLaidOut, LaidOut}
+use Rattle.layout.specs.Parts.{nodeCount, variableCount, nameSize, nameIn, variableIn, variableAt, recordIn, table, ruleIn}
+use Rattle.layout.specs.LaidOut.{Zeros, VariableLaidOut, LaidOut}
 use Rattle.layout.specs.Sheet.{recordBytes, variableRecord, joined, filled, firstContent, nodeContent, contentsOf, sheetOf}
 use Rattle.kinds.proofs.KindLaws.{kind-byte}
 use Rattle.layout.proofs.PartLaws.{words}

@@ -21,7 +21,8 @@ use Rattle.kinds.specs.Rows.{Known}
 use Rattle.layout.specs.Limits.{blockBytes, contentBytes, nameStart, nameField}
 use Rattle.layout.specs.Checks.{checkOf, storedCheck, sealed}
 use Rattle.layout.specs.Starts.{shapeAt}
-use Rattle.layout.specs.Parts.{nameSize, nameIn, variableIn, recordIn, Zeros, VariableLaidOut}
+use Rattle.layout.specs.Parts.{nameSize, nameIn, variableIn, recordIn}
+use Rattle.layout.specs.LaidOut.{Zeros, VariableLaidOut}
 use Rattle.layout.specs.Sheet.{recordBytes, variableRecord, joined, filled}
 use Rattle.layout.specs.WellFormed.{FineVariable}
 use Rattle.kinds.proofs.KindLaws.{byte-names}

@@ -9,9 +9,10 @@ use Rattle.kinds.specs.declared.Record.{Record}
 use Rattle.kinds.specs.declared.Shape.{Shape}
 use Rattle.kinds.specs.declared.Shape.the-variants.{Wrong, Bare, Valued, Named, One, Two, Three}
 use Rattle.layout.specs.Limits.{variablePlace}
-use Rattle.layout.specs.Starts.{shapeAt, Listed}
-use Rattle.layout.specs.Goal.{argsOf, treeAt, goalOf, Sound}
-use Rattle.layout.specs.Parts.{variableCount, nameSize, variableAt, ruleIn, LaidOut}
+use Rattle.layout.specs.Starts.{shapeAt, VariableBelow}
+use Rattle.layout.specs.Goal.{argsOf, treeAt, goalOf}
+use Rattle.layout.specs.Parts.{variableCount, nameSize, variableAt, ruleIn}
+use Rattle.layout.specs.LaidOut.{Sound, LaidOut}
 use Rattle.layout.specs.WellFormed.{FineVariable, Fine, WellFormed}
 use Rattle.layout.proofs.Made.{foundMade, found-make, leafBy, leafStep, FineLeaf, FineHere, throughout-fine}
 use Rattle.layout.proofs.StartLaws.{lower}
@@ -23,7 +24,7 @@ use Rattle.layout.proofs.Written.{bytes-take, bytes-drop}
 
 -- ---- the trees of a table
 module _ {f : ℕ → Record} {v N : ℕ} (words : (j : ℕ) → f j .value < 65536) (sound : Sound f v N) where
-  leaf : (h : Shape) (n : ℕ) → Listed h (f n) v → FineLeaf v (leafBy h (foundMade leafStep h (argsOf h (f n) (treeAt f))))
+  leaf : (h : Shape) (n : ℕ) → VariableBelow h (f n) v → FineLeaf v (leafBy h (foundMade leafStep h (argsOf h (f n) (treeAt f))))
   leaf Wrong n l = tt
   leaf Bare n l = tt
   leaf Valued n l = dec16-narrow (words n)

@@ -1,18 +1,15 @@
 -- The parts of a sheet, read from its bytes (document 01, "The sheet in 512-byte blocks").
-use Prim.Native.Nat.{ℕ, _+_, _-_, _*_, _≤_, _<_, min}
-use mathlib.Core.Path.{_≡_}
-use mathlib.Core.Bool.{true}
+use Prim.Native.Nat.{ℕ, _+_, _≤_, _<_}
 use mathlib.Core.List.{List}
-use lib.ListN.{length, take, drop}
+use lib.ListN.{take, drop}
 use Rattle.lists.specs.Places.{from}
-use Rattle.numbers.specs.Bytes.{byteAt, u16At, i16At, Bytes}
+use Rattle.numbers.specs.Bytes.{byteAt, u16At, i16At}
 use Rattle.numbers.specs.Ranges.{_⋯_}
 use Rattle.meaning.specs.Rule.{Variable, Rule}
 use Rattle.kinds.specs.declared.Record.{Record}
 use Rattle.kinds.specs.Kinds.{kindOf}
-use Rattle.layout.specs.Limits.{blockBytes, contentBytes, editionOffset, nodeCountOffset, variableCountOffset, headerGap, headerGapBytes, mostVariables, maxOffset, nameSizeOffset, zeroOffset, nameStart, mostNameBytes, nameField, nodeBytes, spareOffset, aOffset, bOffset, cOffset, valueOffset, spareStart, nodesInBlock, mostNodes, blocksFor, variablePlace, nodePlace}
-use Rattle.layout.specs.Checks.{blockRight}
-use Rattle.layout.specs.Goal.{goalOf, Sound}
+use Rattle.layout.specs.Limits.{blockBytes, contentBytes, editionOffset, nodeCountOffset, variableCountOffset, maxOffset, nameSizeOffset, zeroOffset, nameStart, mostNameBytes, spareOffset, aOffset, bOffset, cOffset, valueOffset, spareStart, variablePlace, nodePlace}
+use Rattle.layout.specs.Goal.{goalOf}
 
 -- block 0: edition, node count N and variable count V
 abbrev pub edition : List ℕ → ℕ
@@ -60,36 +57,11 @@ table s n = recordIn s (nodePlace n)
 abbrev pub ruleIn : List ℕ → Rule
 ruleIn s = record { variables = from (variableAt s) 0 (variableCount s); goal = goalOf (table s) (nodeCount s) }
 
--- the n bytes from i on are zero
-abbrev pub Zeros : List ℕ → ℕ → ℕ → Type 0
-Zeros s i n = (j : ℕ) → j < n → byteAt s (i + j) ≡ 0
+-- what in a sheet of n variables hangs on their names: each name's length, the 16 bytes of its field, and block 0's check
+pub data OnNames (n : ℕ) : ℕ → Type 0 where
+  name-length : (i : ℕ) → i < n → OnNames n (variablePlace i + nameSizeOffset)
+  name-bytes : (i b : ℕ) → i < n → b < mostNameBytes → OnNames n (variablePlace i + nameStart + b)
+  check-bytes : (j : ℕ) → contentBytes ≤ j → j < blockBytes → OnNames n j
 
--- how many bytes node block b uses, the first being 0: those of the node records that fall in it
-abbrev pub usedInNodeBlock : List ℕ → ℕ → ℕ
-usedInNodeBlock s b = nodeBytes * min nodesInBlock (nodeCount s - nodesInBlock * b)
-
--- the variable record at place i is laid out right: the name's length, the zero byte, and zeros from the name's end to the record's
-pub record VariableLaidOut (s : List ℕ) (i : ℕ) : Type 0 where
-  pub short : nameSize s i ≤ mostNameBytes
-  pub gap : zeroByte s i ≡ 0
-  pub rest : Zeros s (i + nameStart + nameSize s i) (nameField - nameSize s i)
-
--- a sheet that is laid out right; what the rule itself must meet beyond that is no part of the layout
-pub record LaidOut (s : List ℕ) : Type 0 where
-  pub bytes : Bytes s
-  pub size : length s ≡ blockBytes * (blocksFor (nodeCount s) + 1)
-  pub checks : (k : ℕ) → k < blocksFor (nodeCount s) + 1 → blockRight s k ≡ true
-  pub first-edition : edition s ≡ 1
-  pub few : variableCount s ≤ mostVariables
-  pub most : nodeCount s ≤ mostNodes
-  pub gap : Zeros s headerGap headerGapBytes
-  pub tail : Zeros s (variablePlace (variableCount s)) (contentBytes - variablePlace (variableCount s))
-  pub tails : (b : ℕ) → b < blocksFor (nodeCount s) → Zeros s (blockBytes * (b + 1) + usedInNodeBlock s b) (contentBytes - usedInNodeBlock s b)
-  pub variables : (n : ℕ) → n < variableCount s → VariableLaidOut s (variablePlace n)
-  pub nodes : Sound (table s) (variableCount s) (nodeCount s)
-
--- byte j of a sheet of n variables is no name's length, no name's byte and no byte of block 0's check, which depends on both
-pub record Nameless (n j : ℕ) : Type 0 where
-  pub size : (i : ℕ) → i < n → j ≡ variablePlace i + 4 → ⊥
-  pub name : (i : ℕ) → i < n → variablePlace i + 6 ≤ j → variablePlace i + 22 ≤ j
-  pub check : contentBytes ≤ j → blockBytes ≤ j
+abbrev pub Nameless : ℕ → ℕ → Type 0
+Nameless n j = OnNames n j → ⊥

@@ -18,9 +18,10 @@ use Rattle.meaning.specs.Rule.{Rule, domainOf}
 use Rattle.kinds.proofs.ClaimLaws.{throughout-parts}
 use Rattle.layout.specs.Limits.{blocksFor, variablePlace}
 use Rattle.layout.specs.Checks.{blockRight}
-use Rattle.layout.specs.Starts.{sortAt, startAt, Placed, Typed}
-use Rattle.layout.specs.Goal.{treeAt, Sound}
-use Rattle.layout.specs.Parts.{nodeCount, variableCount, nameSize, nameIn, table, ruleIn, LaidOut}
+use Rattle.layout.specs.Starts.{sortAt, startAt, Typed}
+use Rattle.layout.specs.Goal.{treeAt}
+use Rattle.layout.specs.Parts.{nodeCount, variableCount, nameSize, nameIn, table, ruleIn}
+use Rattle.layout.specs.LaidOut.{Placed, Sound, LaidOut}
 use Rattle.layout.specs.Fold.{ofTree}
 use Rattle.layout.specs.Sheet.{sheetOf}
 use Rattle.layout.specs.Nodes.{nodesOf}

@@ -9,7 +9,8 @@ use lib.ListN.{length}
 use lib.Signed.{_≤ℤ_}
 use Rattle.numbers.specs.Bytes.{byteAt, i16At}
 use Rattle.layout.specs.Limits.{variableBytes, maxOffset, nameStart, mostNameBytes, nameEnd, nameField}
-use Rattle.layout.specs.Parts.{nameSize, zeroByte, nameIn, VariableLaidOut}
+use Rattle.layout.specs.Parts.{nameSize, zeroByte, nameIn}
+use Rattle.layout.specs.LaidOut.{VariableLaidOut}
 use Rattle.header.proofs.ZeroLaws.{zeros-at, zeros-of}
 use Rattle.records.specs.Variables.{isLetter, isNameByte, allNameBytes, nameRight, variableRight}
 use Rattle.records.specs.Names.{Letter, NameByte, Name, VariableRule}
