@@ -17,7 +17,7 @@ use Rattle.layout.specs.Checks.{weighted, checkOf, blockRight}
 use Rattle.blocks.specs.Early.{lengthRight, early}
 use Rattle.blocks.proofs.Change.{one-byte}
 
--- byte 0 = 1, byte 509 = 255 and the rest zero
+-- 1 first, 255 last and zeros between
 abbrev pub workedContent : List ℕ
 workedContent = 1 ∷ replicate (contentBytes - 2) 0 ++ mostByte ∷ []
 

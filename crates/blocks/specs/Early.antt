@@ -1,4 +1,4 @@
--- Refusals 1 and 2 (document 01, "When a sheet is turned away"): the length, then the lowest block whose check is wrong.
+-- Follows the code: refusals 1 and 2 as tests, the length, then the lowest block whose check is wrong.
 use Prim.Native.Nat.{ℕ, _*_, _/_, _%_}
 use mathlib.Core.Bool.{Bool, not, _&&_}
 use mathlib.Core.List.{List}

@@ -49,7 +49,7 @@ fn block_right(sheet: &[u8], k: usize) -> bool
     sum == stored
 }
 
-// A block's 510 content bytes as the very part of the sheet; an empty part where the block is not wholly inside or its check is wrong.
+// A block's content as the very part of the sheet; an empty part where the block isn't all there or fails its check.
 pub fn block(sheet: &[u8], k: usize) -> &[u8]
     ensures { λ r. ⌜ BlockPart (sheet .entry) k r ⌝ }
 {

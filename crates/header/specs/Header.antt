@@ -1,4 +1,4 @@
--- Refusals 3 and 4 (document 01, "When a sheet is turned away"): the edition, then the counts, the length and the bytes outside the records.
+-- Follows the code: refusals 3 and 4 as tests, the edition, then the counts, the length and the bytes outside the records.
 use Prim.Native.Nat.{ℕ, zero, suc, _+_, _-_, _*_, _≤_}
 use mathlib.Core.Path.{_≡_}
 use mathlib.Core.Bool.{Bool, _&&_}
@@ -19,7 +19,7 @@ use Rattle.refusals.specs.Said.{unless}
 unfoldable pub zeros : List ℕ → ℕ → ℕ → Bool
 zeros s i n = allBelow (λ j. eqb (byteAt s (i + j)) 0) n
 
--- N is 1 to 248, V at most 16, and the length is that of block 0 and the blocks that N nodes take
+-- N and V are within their limits, and the length is that of block 0 and the blocks that N nodes take
 unfoldable pub countsRight : List ℕ → Bool
 countsRight s = leb 1 (nodeCount s) && leb (nodeCount s) mostNodes && leb (variableCount s) mostVariables && eqb (length s) (blockBytes * (blocksFor (nodeCount s) + 1))
 
@@ -39,7 +39,7 @@ outsideClear s = zeros s headerGap headerGapBytes && allBelow (tailClear s) (blo
 unfoldable pub header : List ℕ → Option Refusal
 header s = unless (eqb (edition s) 1) 3 0 otherwise unless (countsRight s && outsideClear s) 4 0
 
--- what the counts and the length must keep, in propositions: then every record lies inside
+-- the counts and the length in propositions, for contracts: then every record lies inside
 pub record Counted (s : List ℕ) : Type 0 where
   pub some-node : 1 ≤ nodeCount s
   pub most : nodeCount s ≤ mostNodes

@@ -1,4 +1,4 @@
--- The bytes outside the V variable and N node records that must be zero, row by row as document 01, "The sheet in 512-byte blocks", lists them.
+-- Which bytes of a sheet of v variables and n nodes must be zero, records in use left out: a line for each place where document 01 says so.
 use Prim.Native.Nat.{ℕ, _+_, _*_, _≤_, _<_}
 use Rattle.layout.specs.Limits.{blockBytes, contentBytes, headerGap, headerBytes, variableBytes, mostVariables, nodeBytes, nodesInBlock, blocksFor, variablePlace, nodePlace}
 

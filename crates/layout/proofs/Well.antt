@@ -8,7 +8,7 @@ use Rattle.numbers.proofs.Bytes16.{i16-narrow, dec16-narrow}
 use Rattle.kinds.specs.declared.Record.{Record}
 use Rattle.kinds.specs.declared.Shape.{Shape}
 use Rattle.kinds.specs.declared.Shape.the-variants.{Wrong, Bare, Valued, Named, One, Two, Three}
-use Rattle.layout.specs.Limits.{variablePlace}
+use Rattle.layout.specs.Limits.{maxOffset, nameStart, variablePlace}
 use Rattle.layout.specs.Starts.{shapeAt, VariableBelow}
 use Rattle.layout.specs.Goal.{argsOf, treeAt, goalOf}
 use Rattle.layout.specs.Parts.{variableCount, nameSize, variableAt, ruleIn}
@@ -47,9 +47,9 @@ module _ (s : List ℕ) (r : LaidOut s) where
   variable-fine j h =
       let i : ℕ = variablePlace j in
       record {
-        ends = record { low = i16-narrow s (r .bytes) i; high = i16-narrow s (r .bytes) (i + 2) };
+        ends = record { low = i16-narrow s (r .bytes) i; high = i16-narrow s (r .bytes) (i + maxOffset) };
         short = rw length-take (omega (arith, r .variables j h .short));
-        bytes = bytes-take (nameSize s i) (drop (i + 6) s) (bytes-drop (i + 6) s (r .bytes));
+        bytes = bytes-take (nameSize s i) (drop (i + nameStart) s) (bytes-drop (i + nameStart) s (r .bytes));
       }
 
   pub rule-well : WellFormed (ruleIn s)

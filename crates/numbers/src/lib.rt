@@ -6,7 +6,7 @@ ghost use Rattle.numbers.specs.Two.{dec};
 ghost use Rattle.numbers.specs.Bytes.{byteLimit, byteAt, u16At, i16At};
 ghost use Rattle.numbers.specs.Ranges.{_⋯_, NarrowEnds, isNarrow, hasNarrowEnds, leastOf, greatestOf, minusOf, sumOf, differenceOf, spanOf, productOf, unionOf};
 
-// A variable's number and a node's number: neither may be taken for the other.
+// The numbers of variables and of nodes: two types, so that neither passes for the other.
 pub struct VariableNumber(pub u16);
 
 pub struct NodeNumber(pub u16);
@@ -133,7 +133,7 @@ pub fn product(a: Range, b: Range) -> Range
     )
 }
 
-// From the least to the greatest of both.
+// The least range that has both.
 pub fn union(a: Range, b: Range) -> Range
     ensures { λ r. ⌜ r ≡ unionOf a b ⌝ }
 {

@@ -9,7 +9,7 @@ use Rattle.numbers.specs.Bytes.{byteAt}
 use Rattle.numbers.specs.Ranges.{NarrowEnds}
 use Rattle.meaning.specs.declared.Sort.the-variants.{Truth}
 use Rattle.kinds.specs.Rows.{Known}
-use Rattle.layout.specs.Limits.{blockBytes, mostBlocks, mostNodes, mostVariables, blocksFor, nodePlace}
+use Rattle.layout.specs.Limits.{blockBytes, mostVariables, nodeBytes, spareOffset, spareStart, mostNodes, blocksFor, mostBlocks, nodePlace}
 use Rattle.layout.specs.Checks.{checkOf, content, storedCheck}
 use Rattle.layout.specs.Starts.{shapeAt, sortAt, operandsOf, UnusedZero, VariableBelow, startAt, Ordered, Typed}
 use Rattle.layout.specs.Parts.{edition, nodeCount, variableCount, table}
@@ -44,9 +44,9 @@ pub data Row4 (s : List ℕ) : Type 0 where
 abbrev pub Row5 : List ℕ → ℕ → Type 0
 Row5 s i = VariableKept s i → ⊥
 
--- bytes 1 and 10..15 of the node record at place i are zero
+-- the bytes of the node record at place i that no kind uses are zero
 abbrev pub SpareZero : List ℕ → ℕ → Type 0
-SpareZero s i = (byteAt s (i + 1) ≡ 0) × ((j : ℕ) → 10 ≤ j → j ≤ 15 → byteAt s (i + j) ≡ 0)
+SpareZero s i = (byteAt s (i + spareOffset) ≡ 0) × ((j : ℕ) → spareStart ≤ j → j < nodeBytes → byteAt s (i + j) ≡ 0)
 
 -- 6: a kind that the table of kinds hasn't, something in an unused field or a spare byte, operands elsewhere than the order demands, a variable that isn't listed
 pub data Row6 (s : List ℕ) (n : ℕ) : Type 0 where

@@ -16,7 +16,7 @@ Letter b = ((65 ≤ b) × (b ≤ 90)) ⊎ ((97 ≤ b) × (b ≤ 122))
 abbrev pub NameByte : ℕ → Type 0
 NameByte b = (Letter b ⊎ ((48 ≤ b) × (b ≤ 57))) ⊎ (b ≡ 95)
 
--- a name is a letter, then letters, digits or underscores
+-- the first byte is a letter, all others are name bytes, and no name is empty
 abbrev pub Name : List ℕ → Type 0
 Name [] = ⊥
 Name (b ∷ bs) = Letter b × ((j : ℕ) → j < length bs → NameByte (byteAt bs j))

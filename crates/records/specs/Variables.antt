@@ -1,4 +1,4 @@
--- Refusal 5 (document 01, "Variable record"): the lowest variable record that breaks a rule or repeats a lower one's name.
+-- Follows the code: refusal 5 as tests, which say what `Names` says in propositions.
 use Prim.Native.Nat.{ℕ, _+_, _-_}
 use mathlib.Core.Bool.{Bool, true, false, not, _&&_, _||_}
 use mathlib.Core.List.{List, [], _∷_}
@@ -15,7 +15,6 @@ use Rattle.layout.specs.Parts.{variableCount, nameSize, zeroByte, nameIn}
 use Rattle.refusals.specs.Said.{unless}
 use Rattle.header.specs.Header.{zeros}
 
--- ASCII: A to Z and a to z; 0 to 9; the underscore
 unfoldable pub isLetter : ℕ → Bool
 isLetter b = leb 65 b && leb b 90 || leb 97 b && leb b 122
 
@@ -26,7 +25,6 @@ unfoldable pub allNameBytes : List ℕ → Bool
 allNameBytes [] = true
 allNameBytes (b ∷ bs) = isNameByte b && allNameBytes bs
 
--- a name is a letter, then letters, digits or underscores
 unfoldable pub nameRight : List ℕ → Bool
 nameRight [] = false
 nameRight (b ∷ bs) = isLetter b && allNameBytes bs
