@@ -1,6 +1,6 @@
 -- Two sheets that are laid out right, with the same goal over the same domains, agree at every byte that says nothing of names. Assumes nothing.
 use Prim.Native.Nat.{ℕ, suc, _+_, _-_, _*_, _/_, _≤_, _<_}
-use mathlib.Core.Path.{_≡_, sym, ap, subst, _∙_}
+use mathlib.Core.Path.{_≡_, refl, sym, ap, subst, _∙_}
 use mathlib.Core.List.{List, _++_}
 use native.Mathlib.Numerals.{add-one}
 use native.Mathlib.Decide.{decLt}
@@ -57,6 +57,15 @@ module _ {v j : ℕ} (n : Nameless v j) where
 
   past-check : contentBytes ≤ j → blockBytes ≤ j
   past-check l = elim (decLt j blockBytes) [ yes d ↦ absurd (n (check-bytes j l d)) | no d ↦ omega arith ]
+
+-- a byte of a domain is such a byte
+pub domain-nameless : (v i b : ℕ) → b < nameSizeOffset → Nameless v (variablePlace i + b)
+domain-nameless v i b l o = nowhere o refl
+  where
+    nowhere : {j : ℕ} → OnNames v j → j ≡ variablePlace i + b → ⊥
+    nowhere (name-length k h) e = omega arith
+    nowhere (name-bytes k c h m) e = omega arith
+    nowhere (check-bytes j m h) e = omega arith
 
 -- the blocks after the first
 after-first : (s : List ℕ) → LaidOut s → drop blockBytes s ≡ sealed 1 (from (content s) 1 (blocksFor (nodeCount s)))
