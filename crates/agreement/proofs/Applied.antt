@@ -30,6 +30,7 @@ use Rattle.layout.specs.Goal.{treeAt}
 use Rattle.layout.specs.Parts.{nodeCount, variableCount, ruleIn}
 use Rattle.layout.specs.Sheet.{sheetOf}
 use Rattle.layout.specs.Fold.{ofTree, ofNode}
+use Rattle.layout.proofs.Agree.{domain-nameless}
 use Rattle.layout.proofs.Example.{areBytes, bytes-by}
 use Rattle.refusals.specs.declared.Reading.the-variants.{Accepted as accepted}
 use Rattle.refusals.specs.Rows.{Answered}
@@ -126,7 +127,7 @@ module _ {s other : List ℕ} {cases heldCases failedCases : ℕ} {firstCase : O
   same-size = same-script s other sheet other-sheet (c .scripts) .0
 
   pub same-domain : byteAt s 10 ≡ byteAt other 10
-  same-domain = same-script s other sheet other-sheet (c .scripts) .1 10 (record { size = λ i h e. omega arith; name = λ i h e. omega arith; check = λ h. omega arith })
+  same-domain = same-script s other sheet other-sheet (c .scripts) .1 10 (domain-nameless (variableCount s) 0 2 (omega arith))
 
   -- ---- the check, with room for three numbers
   module _ (room : List ℤ) (three : length room ≡ 3) where

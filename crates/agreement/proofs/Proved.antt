@@ -22,7 +22,8 @@ use Rattle.meaning.proofs.Counts.{case-count, held-failed}
 use Rattle.meaning.proofs.Repeats.{map-no-repeats}
 use Rattle.meaning.proofs.Failures.{failures-are, failures-once, failed-is}
 use Rattle.layout.specs.Limits.{blockBytes}
-use Rattle.layout.specs.Parts.{variableCount, ruleIn, LaidOut}
+use Rattle.layout.specs.Parts.{variableCount, ruleIn}
+use Rattle.layout.specs.LaidOut.{LaidOut}
 use Rattle.layout.specs.Sheet.{sheetOf}
 use Rattle.layout.proofs.SheetBack.{sheet-laid-out}
 use Rattle.layout.proofs.Agree.{lengths, agrees}

@@ -18,8 +18,9 @@ use Rattle.kinds.specs.declared.Shape.the-variants.{Wrong, Bare, Valued, Named,
 use Rattle.kinds.specs.Kinds.{Args, row}
 use Rattle.kinds.specs.Rows.{make, Known, SomeTree}
 use Rattle.kinds.proofs.RowLaws.{Each, by-rows}
-use Rattle.layout.specs.Starts.{sortAt, operandsOf, sortsOf, unusedOf, startBy, startAt, Ordered, Sorted, Listed, Placed, Typed}
-use Rattle.layout.specs.Goal.{recast, ofSort, argsOf, treeAt, goalOf, Sound}
+use Rattle.layout.specs.Starts.{sortAt, operandsOf, sortsOf, startBy, startAt, Ordered, Sorted, VariableBelow, Typed}
+use Rattle.layout.specs.Goal.{recast, ofSort, argsOf, treeAt, goalOf}
+use Rattle.layout.specs.LaidOut.{unusedOf, Placed, Sound}
 use Rattle.layout.specs.Nodes.{node, listing, nodesOf}
 use Rattle.layout.specs.WellFormed.{Fine}
 use Rattle.layout.proofs.Made.{listMade, FineMade, listing-make, fine-parts}
@@ -60,7 +61,7 @@ module _ (f : ℕ → Record) (v : ℕ) where
   record Fits (h : Shape) (x : Args h) (r : Record) (i n : ℕ) : Type 0 where
     clear : unusedOf h r + r .spare ≡ 0
     ordered : Ordered (startAt f) n (operandsOf h r)
-    listed : Listed h r v
+    listed : VariableBelow h r v
     sorted : Sorted (sortAt f) (operandsOf h r) (sortsOf h)
     word : r .value < 65536
     start : startBy h r n (startAt f) ≡ i

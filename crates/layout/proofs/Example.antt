@@ -29,9 +29,10 @@ use Rattle.kinds.proofs.ClaimLaws.{Throughout}
 use Rattle.layout.specs.Limits.{mostVariables, nodesInBlock, mostNodes, blocksFor, mostBlocks, mostSheetBytes, variablePlace, nodePlace}
 use Rattle.layout.specs.Checks.{weighted, checkOf, sealed}
 use Rattle.layout.specs.Starts.{shapeAt, operandsOf, startStep, startAt}
-use Rattle.layout.specs.Goal.{treeStep, treeAt, goalOf, Sound}
+use Rattle.layout.specs.Goal.{treeStep, treeAt, goalOf}
 use Rattle.layout.specs.Nodes.{node, nodesOf}
-use Rattle.layout.specs.Parts.{nodeCount, variableCount, table, ruleIn, LaidOut}
+use Rattle.layout.specs.Parts.{nodeCount, variableCount, table, ruleIn}
+use Rattle.layout.specs.LaidOut.{Sound, LaidOut}
 use Rattle.layout.specs.Sheet.{sheetOf}
 use Rattle.layout.specs.WellFormed.{FineVariable, Fine, WellFormed}
 use Rattle.layout.specs.Fold.{Found, ofTree, nodeStep, ofNode}
@@ -45,7 +46,7 @@ use Rattle.layout.proofs.SheetLaws.{sheet-is, one-sheet}
 use Rattle.layout.proofs.SheetBack.{sheet-laid-out, sheet-shows}
 use Rattle.layout.proofs.Made.{throughout-fine}
 use Rattle.layout.proofs.Well.{goal-fine, rule-well}
-use Rattle.layout.proofs.Agree.{Alike, lengths, rest, agrees}
+use Rattle.layout.proofs.Agree.{Alike, lengths, rest, agrees, domain-nameless}
 
 -- the names and the rule
 abbrev seated : List ℕ
@@ -254,4 +255,4 @@ same-nodes = rest sheetA sheetB laidOutA laidOutB alike
 
 -- byte 10 is of a domain
 same-byte : byteAt sheetA 10 ≡ byteAt sheetB 10
-same-byte = agrees sheetA sheetB laidOutA laidOutB alike 10 (record { size = λ i h e. omega arith; name = λ i h e. omega arith; check = λ h. omega arith })
+same-byte = agrees sheetA sheetB laidOutA laidOutB alike 10 (domain-nameless (variableCount sheetA) 0 2 (omega arith))

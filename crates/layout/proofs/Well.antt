@@ -8,10 +8,11 @@ use Rattle.numbers.proofs.Bytes16.{i16-narrow, dec16-narrow}
 use Rattle.kinds.specs.declared.Record.{Record}
 use Rattle.kinds.specs.declared.Shape.{Shape}
 use Rattle.kinds.specs.declared.Shape.the-variants.{Wrong, Bare, Valued, Named, One, Two, Three}
-use Rattle.layout.specs.Limits.{variablePlace}
-use Rattle.layout.specs.Starts.{shapeAt, Listed}
-use Rattle.layout.specs.Goal.{argsOf, treeAt, goalOf, Sound}
-use Rattle.layout.specs.Parts.{variableCount, nameSize, variableAt, ruleIn, LaidOut}
+use Rattle.layout.specs.Limits.{maxOffset, nameStart, variablePlace}
+use Rattle.layout.specs.Starts.{shapeAt, VariableBelow}
+use Rattle.layout.specs.Goal.{argsOf, treeAt, goalOf}
+use Rattle.layout.specs.Parts.{variableCount, nameSize, variableAt, ruleIn}
+use Rattle.layout.specs.LaidOut.{Sound, LaidOut}
 use Rattle.layout.specs.WellFormed.{FineVariable, Fine, WellFormed}
 use Rattle.layout.proofs.Made.{foundMade, found-make, leafBy, leafStep, FineLeaf, FineHere, throughout-fine}
 use Rattle.layout.proofs.StartLaws.{lower}
@@ -23,7 +24,7 @@ use Rattle.layout.proofs.Written.{bytes-take, bytes-drop}
 
 -- ---- the trees of a table
 module _ {f : ℕ → Record} {v N : ℕ} (words : (j : ℕ) → f j .value < 65536) (sound : Sound f v N) where
-  leaf : (h : Shape) (n : ℕ) → Listed h (f n) v → FineLeaf v (leafBy h (foundMade leafStep h (argsOf h (f n) (treeAt f))))
+  leaf : (h : Shape) (n : ℕ) → VariableBelow h (f n) v → FineLeaf v (leafBy h (foundMade leafStep h (argsOf h (f n) (treeAt f))))
   leaf Wrong n l = tt
   leaf Bare n l = tt
   leaf Valued n l = dec16-narrow (words n)
@@ -46,9 +47,9 @@ module _ (s : List ℕ) (r : LaidOut s) where
   variable-fine j h =
       let i : ℕ = variablePlace j in
       record {
-        ends = record { low = i16-narrow s (r .bytes) i; high = i16-narrow s (r .bytes) (i + 2) };
+        ends = record { low = i16-narrow s (r .bytes) i; high = i16-narrow s (r .bytes) (i + maxOffset) };
         short = rw length-take (omega (arith, r .variables j h .short));
-        bytes = bytes-take (nameSize s i) (drop (i + 6) s) (bytes-drop (i + 6) s (r .bytes));
+        bytes = bytes-take (nameSize s i) (drop (i + nameStart) s) (bytes-drop (i + nameStart) s (r .bytes));
       }
 
   pub rule-well : WellFormed (ruleIn s)

@@ -16,9 +16,10 @@ use Rattle.meaning.specs.declared.Sort.the-variants.{Truth as truth}
 use Rattle.kinds.specs.declared.Record.{Record}
 use Rattle.kinds.specs.declared.Shape.{Shape}
 use Rattle.kinds.specs.declared.Shape.the-variants.{Wrong, Bare, Valued, Named, One, Two, Three}
-use Rattle.layout.specs.Limits.{nodePlace}
-use Rattle.layout.specs.Starts.{shapeAt, sortAt, operandsOf, sortsOf, unusedOf, startAt, Sorted, Typed, Placed}
+use Rattle.layout.specs.Limits.{nodeBytes, spareStart, nodePlace}
+use Rattle.layout.specs.Starts.{fieldsOf, AllZero, UnusedZero, shapeAt, sortAt, operandsOf, sortsOf, startAt, Sorted, Typed}
 use Rattle.layout.specs.Parts.{nodeCount, variableCount, recordIn, table}
+use Rattle.layout.specs.LaidOut.{total, unusedOf, Placed}
 use Rattle.refusals.specs.Rows.{row, _then_, eachOf, Exactly}
 use Rattle.refusals.proofs.RowLaws.{exactly-row, exactly-unless, exactly-then, exactly-each}
 use Rattle.order.specs.Order.{isKnown, inOrder, isListed, placed}
@@ -28,27 +29,25 @@ use Rattle.findings.specs.declared.Finding.the-variants.{Truth, Integer}
 use Rattle.findings.specs.Findings.{fitting}
 use Rattle.findings.proofs.FindingLaws.{decides-same}
 use Rattle.nodes.specs.Nodes.{findingAt, areSorted, typed, nodeRefusal, goalAt, nodes}
-use Rattle.reading.specs.Rows.{UnusedZero, SpareZero, Row6, unknown, unused, spare, misplaced, unlisted, Row7, Row8, GoalSubtree, GoalType}
+use Rattle.reading.specs.Rows.{SpareZero, Row6, unknown, unused, spare, misplaced, unlisted, Row7, Row8, GoalSubtree, GoalType}
 
 -- ---- unused fields and bytes are zero exactly where their sum is
+zero-total : (xs : List ℕ) → (total xs ≡ 0) ↔ AllZero xs
+zero-total [] = (λ e. tt, λ z. refl)
+zero-total (x ∷ xs) = let t = zero-total xs in (λ e. (omega arith, t .0 (omega arith)), λ z. omega (arith, z .0, t .1 (z .1)))
+
 unused-zero : (h : Shape) (r : Record) → (unusedOf h r ≡ 0) ↔ UnusedZero h r
-unused-zero Wrong r = (λ e. tt, λ z. refl)
-unused-zero Bare r = (λ e. omega arith, λ z. omega arith)
-unused-zero Valued r = (λ e. omega arith, λ z. omega arith)
-unused-zero Named r = (λ e. omega arith, λ z. omega arith)
-unused-zero (One s) r = (λ e. omega arith, λ z. omega arith)
-unused-zero (Two s t) r = (λ e. omega arith, λ z. omega arith)
-unused-zero (Three s t u) r = (λ e. e, λ z. z)
+unused-zero h r = zero-total (fieldsOf h .unused r)
 
 spare-zero : (s : List ℕ) (i : ℕ) → (recordIn s i .spare ≡ 0) ↔ SpareZero s i
 spare-zero s i = (
-  λ e. (omega arith, λ j l h. go e j (j - 10) (omega arith) h),
+  λ e. (omega arith, λ j l h. go e j (j - spareStart) (omega arith) h),
   λ z.
-      let t : (k : ℕ) → k ≤ 5 → byteAt s (i + (10 + k)) ≡ 0 = λ k l. z .1 (10 + k) (omega arith) (omega arith) in
+      let t : (k : ℕ) → k < nodeBytes - spareStart → byteAt s (i + (spareStart + k)) ≡ 0 = λ k l. z .1 (spareStart + k) (omega arith) (omega arith) in
       omega (arith, z .0, t 0 (omega arith), t 1 (omega arith), t 2 (omega arith), t 3 (omega arith), t 4 (omega arith), t 5 (omega arith)),
 )
   where
-    go : recordIn s i .spare ≡ 0 → (j k : ℕ) → j ≡ 10 + k → j ≤ 15 → byteAt s (i + j) ≡ 0
+    go : recordIn s i .spare ≡ 0 → (j k : ℕ) → j ≡ spareStart + k → j < nodeBytes → byteAt s (i + j) ≡ 0
     go e j zero q h = rw q (omega arith)
     go e j (suc zero) q h = rw q (omega arith)
     go e j (suc (suc zero)) q h = rw q (omega arith)

@@ -7,6 +7,7 @@ use native.Mathlib.Omega.{arith}
 use lib.ListN.{length}
 use Rattle.lists.proofs.FirstLaws.{otherwise-none, otherwise-some}
 use Rattle.refusals.specs.declared.Refusal.{Refusal}
+use Rattle.numbers.specs.Bytes.{mostByte}
 use Rattle.layout.specs.Limits.{blockBytes, nameStart, mostVariables, variablePlace}
 use Rattle.layout.specs.Parts.{variableCount}
 use Rattle.refusals.specs.declared.Reading.{Reading}
@@ -78,7 +79,7 @@ module _ (s : List ℕ) {a : Reading} (e : saidOf a ≡ refusalOf s) where
     pub accepted-long : blockBytes ≤ length s
     accepted-long = block-inside (accepted-counted s (none-of e p))
 
-    pub name-inside : {i : ℕ} → i < variableCount s → variablePlace i + nameStart + 255 ≤ length s
+    pub name-inside : {i : ℕ} → i < variableCount s → variablePlace i + nameStart + mostByte ≤ length s
     name-inside h =
         let c = accepted-counted s (none-of e p) in
         let z = c .size in

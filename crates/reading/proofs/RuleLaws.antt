@@ -16,11 +16,12 @@ use Rattle.numbers.specs.Bytes.{Bytes}
 use Rattle.meaning.specs.declared.Sort.the-variants.{Truth}
 use Rattle.meaning.specs.Rule.{Rule, domainOf}
 use Rattle.kinds.proofs.ClaimLaws.{throughout-parts}
-use Rattle.layout.specs.Limits.{blocksFor, variablePlace}
+use Rattle.layout.specs.Limits.{nameStart, blocksFor, variablePlace}
 use Rattle.layout.specs.Checks.{blockRight}
-use Rattle.layout.specs.Starts.{sortAt, startAt, Placed, Typed}
-use Rattle.layout.specs.Goal.{treeAt, Sound}
-use Rattle.layout.specs.Parts.{nodeCount, variableCount, nameSize, nameIn, table, ruleIn, LaidOut}
+use Rattle.layout.specs.Starts.{sortAt, startAt, Typed}
+use Rattle.layout.specs.Goal.{treeAt}
+use Rattle.layout.specs.Parts.{nodeCount, variableCount, nameSize, nameIn, table, ruleIn}
+use Rattle.layout.specs.LaidOut.{Placed, Sound, LaidOut}
 use Rattle.layout.specs.Fold.{ofTree}
 use Rattle.layout.specs.Sheet.{sheetOf}
 use Rattle.layout.specs.Nodes.{nodesOf}
@@ -53,7 +54,7 @@ use Rattle.reading.proofs.NodeRows.{typed-decided}
 name-long : (s : List ℕ) (i : ℕ) → Name (nameIn s i) → 1 ≤ nameSize s i
 name-long s i = go (nameSize s i)
   where
-    go : (n : ℕ) → Name (take n (drop (i + 6) s)) → 1 ≤ n
+    go : (n : ℕ) → Name (take n (drop (i + nameStart) s)) → 1 ≤ n
     go zero h = absurd h
     go (suc n) h = omega arith
 

@@ -8,13 +8,10 @@ use Rattle.refusals.specs.Rows.{Row, row, _then_, eachOf, NoneApplies}
 use Rattle.numbers.specs.Bytes.{byteAt}
 use Rattle.numbers.specs.Ranges.{NarrowEnds}
 use Rattle.meaning.specs.declared.Sort.the-variants.{Truth}
-use Rattle.kinds.specs.declared.Record.{Record}
-use Rattle.kinds.specs.declared.Shape.{Shape}
-use Rattle.kinds.specs.declared.Shape.the-variants.{Wrong, Bare, Valued, Named, One, Two, Three}
 use Rattle.kinds.specs.Rows.{Known}
-use Rattle.layout.specs.Limits.{blockBytes, mostBlocks, mostNodes, mostVariables, blocksFor, nodePlace}
+use Rattle.layout.specs.Limits.{blockBytes, mostVariables, nodeBytes, spareOffset, spareStart, mostNodes, blocksFor, mostBlocks, nodePlace}
 use Rattle.layout.specs.Checks.{checkOf, content, storedCheck}
-use Rattle.layout.specs.Starts.{shapeAt, sortAt, operandsOf, startAt, Ordered, Listed, Typed}
+use Rattle.layout.specs.Starts.{shapeAt, sortAt, operandsOf, UnusedZero, VariableBelow, startAt, Ordered, Typed}
 use Rattle.layout.specs.Parts.{edition, nodeCount, variableCount, table}
 use Rattle.header.specs.MustBeZero.{MustBeZero}
 use Rattle.records.specs.Names.{VariableKept}
@@ -47,19 +44,9 @@ pub data Row4 (s : List ℕ) : Type 0 where
 abbrev pub Row5 : List ℕ → ℕ → Type 0
 Row5 s i = VariableKept s i → ⊥
 
--- the fields that a kind of the shape doesn't use are zero
-abbrev pub UnusedZero : Shape → Record → Type 0
-UnusedZero Wrong r = Unit {0}
-UnusedZero Bare r = (r .a ≡ 0) × (r .b ≡ 0) × (r .c ≡ 0) × (r .value ≡ 0)
-UnusedZero Valued r = (r .a ≡ 0) × (r .b ≡ 0) × (r .c ≡ 0)
-UnusedZero Named r = (r .b ≡ 0) × (r .c ≡ 0) × (r .value ≡ 0)
-UnusedZero (One s) r = (r .b ≡ 0) × (r .c ≡ 0) × (r .value ≡ 0)
-UnusedZero (Two s t) r = (r .c ≡ 0) × (r .value ≡ 0)
-UnusedZero (Three s t u) r = r .value ≡ 0
-
--- bytes 1 and 10..15 of the node record at place i are zero
+-- the bytes of the node record at place i that no kind uses are zero
 abbrev pub SpareZero : List ℕ → ℕ → Type 0
-SpareZero s i = (byteAt s (i + 1) ≡ 0) × ((j : ℕ) → 10 ≤ j → j ≤ 15 → byteAt s (i + j) ≡ 0)
+SpareZero s i = (byteAt s (i + spareOffset) ≡ 0) × ((j : ℕ) → spareStart ≤ j → j < nodeBytes → byteAt s (i + j) ≡ 0)
 
 -- 6: a kind that the table of kinds hasn't, something in an unused field or a spare byte, operands elsewhere than the order demands, a variable that isn't listed
 pub data Row6 (s : List ℕ) (n : ℕ) : Type 0 where
@@ -67,7 +54,7 @@ pub data Row6 (s : List ℕ) (n : ℕ) : Type 0 where
   unused : (UnusedZero (shapeAt (table s n)) (table s n) → ⊥) → Row6 s n
   spare : (SpareZero s (nodePlace n) → ⊥) → Row6 s n
   misplaced : (Ordered (startAt (table s)) n (operandsOf (shapeAt (table s n)) (table s n)) → ⊥) → Row6 s n
-  unlisted : (Listed (shapeAt (table s n)) (table s n) (variableCount s) → ⊥) → Row6 s n
+  unlisted : (VariableBelow (shapeAt (table s n)) (table s n) (variableCount s) → ⊥) → Row6 s n
 
 -- 7: an operand gives another sort than its kind asks
 abbrev pub Row7 : List ℕ → ℕ → Type 0
