@@ -40,9 +40,9 @@ use Rattle.header.specs.Header.{zeros, countsRight, tailClear, outsideClear, he
 use Rattle.lists.specs.Names.{sameBytes}
 use Rattle.records.specs.Variables.{isLetter, isNameByte, allNameBytes, nameRight, variableRight, fresh}
 use Rattle.findings.specs.declared.Finding.the-variants.{Integer}
-use Rattle.findings.specs.Findings.{findingOf}
-use Rattle.order.specs.Order.{placed}
-use Rattle.nodes.specs.Nodes.{typed, nodeRefusal, nodes, findingAt}
+use Rattle.findings.specs.Findings.{findingOf, findingAt}
+use Rattle.order.specs.Order.{rightlyPlaced}
+use Rattle.nodes.specs.Nodes.{typed, nodeRefusal, nodes}
 use Rattle.reading.specs.Rows.{sheetRows}
 use Rattle.reading.specs.Cascade.{refusalOf}
 use Rattle.reading.specs.Lawful.{Allowed}
@@ -171,7 +171,7 @@ sheetB =
     ++ block (17 ∷ 0 ∷ 0 ∷ 0 ∷ 0 ∷ 0 ∷ 0 ∷ 0 ∷ 0 ∷ 0 ∷ 0 ∷ 0 ∷ 0 ∷ 0 ∷ 0 ∷ 0 ∷ 17 ∷ 0 ∷ 1 ∷ 0 ∷ 0 ∷ 0 ∷ 0 ∷ 0 ∷ 0 ∷ 0 ∷ 0 ∷ 0 ∷ 0 ∷ 0 ∷ 0 ∷ 0 ∷ 8 ∷ 0 ∷ 0 ∷ 0 ∷ 1 ∷ []) 116 2
 
 pub computedA : Computed sheetA sheetB 4 2 2 (some (pos 0 ∷ pos 1 ∷ []))
-unfolding value sizeOf casesOf holds failures firstFailure held failed treeAt allBelow below course first enc dec isNarrow hasNarrowEnds leastOf greatestOf find kindOf weighted checkOf blockRight startAt ofTree ofNode lengthRight early zeros countsRight tailClear outsideClear header isLetter isNameByte allNameBytes nameRight sameBytes variableRight fresh findingOf placed typed nodeRefusal nodes refusalOf hexDigit hexText literal symbolText joined script
+unfolding value sizeOf casesOf holds failures firstFailure held failed treeAt allBelow below course first enc dec isNarrow hasNarrowEnds leastOf greatestOf find kindOf weighted checkOf blockRight startAt ofTree ofNode lengthRight early zeros countsRight tailClear outsideClear header isLetter isNameByte allNameBytes nameRight sameBytes variableRight fresh findingOf rightlyPlaced typed nodeRefusal nodes refusalOf hexDigit hexText literal symbolText joined script
 computedA = record {
   bytes = refl;
   other-bytes = refl;
@@ -196,7 +196,7 @@ sheet11-renamed =
     ++ block (17 ∷ 0 ∷ 0 ∷ 0 ∷ 0 ∷ 0 ∷ 0 ∷ 0 ∷ 0 ∷ 0 ∷ 0 ∷ 0 ∷ 0 ∷ 0 ∷ 0 ∷ 0 ∷ 17 ∷ 0 ∷ 1 ∷ 0 ∷ 0 ∷ 0 ∷ 0 ∷ 0 ∷ 0 ∷ 0 ∷ 0 ∷ 0 ∷ 0 ∷ 0 ∷ 0 ∷ 0 ∷ 21 ∷ 0 ∷ 0 ∷ 0 ∷ 1 ∷ 0 ∷ 0 ∷ 0 ∷ 0 ∷ 0 ∷ 0 ∷ 0 ∷ 0 ∷ 0 ∷ 0 ∷ 0 ∷ 16 ∷ 0 ∷ 0 ∷ 0 ∷ 0 ∷ 0 ∷ 0 ∷ 0 ∷ 12 ∷ 0 ∷ 0 ∷ 0 ∷ 0 ∷ 0 ∷ 0 ∷ 0 ∷ 10 ∷ 0 ∷ 2 ∷ 0 ∷ 3 ∷ []) 188 13
 
 pub computed11 : Computed sheet11 sheet11-renamed 60 60 0 none
-unfolding value sizeOf casesOf holds failures firstFailure held failed treeAt allBelow below course first enc dec isNarrow hasNarrowEnds leastOf greatestOf find kindOf weighted checkOf blockRight startAt ofTree ofNode lengthRight early zeros countsRight tailClear outsideClear header isLetter isNameByte allNameBytes nameRight sameBytes variableRight fresh findingOf placed typed nodeRefusal nodes refusalOf hexDigit hexText literal symbolText joined script
+unfolding value sizeOf casesOf holds failures firstFailure held failed treeAt allBelow below course first enc dec isNarrow hasNarrowEnds leastOf greatestOf find kindOf weighted checkOf blockRight startAt ofTree ofNode lengthRight early zeros countsRight tailClear outsideClear header isLetter isNameByte allNameBytes nameRight sameBytes variableRight fresh findingOf rightlyPlaced typed nodeRefusal nodes refusalOf hexDigit hexText literal symbolText joined script
 computed11 = record {
   bytes = refl;
   other-bytes = refl;
@@ -265,7 +265,7 @@ case-A = first-fails (ruleIn sheetA) (computedA .first-is) .0
 
 -- ---- a sheet that is refused: 16,384 + 16,384 at node 2
 pub refusal-8 : refusalOf (case8 .sheet) ≡ some (record { number = 8; place = 2 })
-unfolding allBelow below course first dec isNarrow hasNarrowEnds leastOf greatestOf find kindOf weighted checkOf blockRight startAt ofNode lengthRight early zeros countsRight tailClear outsideClear header isLetter isNameByte allNameBytes nameRight sameBytes variableRight fresh findingOf placed typed nodeRefusal nodes refusalOf
+unfolding allBelow below course first dec isNarrow hasNarrowEnds leastOf greatestOf find kindOf weighted checkOf blockRight startAt ofNode lengthRight early zeros countsRight tailClear outsideClear header isLetter isNameByte allNameBytes nameRight sameBytes variableRight fresh findingOf rightlyPlaced typed nodeRefusal nodes refusalOf
 refusal-8 = refl
 
 pub refused-8 : Answered (sheetRows (case8 .sheet)) (record { number = 8; place = 2 })

@@ -18,7 +18,7 @@ use Rattle.header.specs.Header.{zeros, countsRight, tailClear, outsideClear, he
 use Rattle.lists.specs.Names.{sameBytes}
 use Rattle.records.specs.Variables.{isLetter, isNameByte, allNameBytes, nameRight, variableRight, fresh}
 use Rattle.findings.specs.Findings.{findingOf}
-use Rattle.order.specs.Order.{placed}
+use Rattle.order.specs.Order.{rightlyPlaced}
 use Rattle.nodes.specs.Nodes.{typed, nodeRefusal, nodes}
 use Rattle.reading.specs.Cascade.{refusalOf}
 use Rattle.cases.specs.Checks.{checkRefusal}
@@ -30,5 +30,5 @@ use Rattle.writer.specs.Writes.{scriptRefusal}
 use Rattle.agreement.specs.Starred.{table, run}
 
 pub starred : map run table ≡ table
-unfolding value sizeOf casesOf holds failures firstFailure held failed treeAt allBelow below course first enc dec isNarrow hasNarrowEnds leastOf greatestOf find kindOf weighted checkOf blockRight startAt ofTree ofNode lengthRight early zeros countsRight tailClear outsideClear header isLetter isNameByte allNameBytes nameRight sameBytes variableRight fresh findingOf placed typed nodeRefusal nodes refusalOf hexDigit hexText literal symbolText joined script checkRefusal scriptRefusal over
+unfolding value sizeOf casesOf holds failures firstFailure held failed treeAt allBelow below course first enc dec isNarrow hasNarrowEnds leastOf greatestOf find kindOf weighted checkOf blockRight startAt ofTree ofNode lengthRight early zeros countsRight tailClear outsideClear header isLetter isNameByte allNameBytes nameRight sameBytes variableRight fresh findingOf rightlyPlaced typed nodeRefusal nodes refusalOf hexDigit hexText literal symbolText joined script checkRefusal scriptRefusal over
 starred = refl

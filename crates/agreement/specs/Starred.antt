@@ -13,7 +13,7 @@ use Rattle.meaning.specs.Cases.{firstFailure, held, failed}
 use Rattle.layout.specs.Parts.{ruleIn}
 use Rattle.findings.specs.declared.Finding.{Finding}
 use Rattle.findings.specs.declared.Finding.the-variants.{Integer}
-use Rattle.nodes.specs.Nodes.{findingAt}
+use Rattle.findings.specs.Findings.{findingAt}
 use Rattle.reading.specs.Cascade.{refusalOf}
 use Rattle.cases.specs.Checks.{tryRefusal, checkRefusal, verdict, roomAfter}
 use Rattle.cases.specs.Tallies.{unlessRefused}
