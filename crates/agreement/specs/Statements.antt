@@ -90,7 +90,7 @@ SheetOfRule = (s : List ℕ) → Sheet s → Allowed (ruleIn s) × (sheetOf (rul
 abbrev pub RuleOfSheet : Type 0
 RuleOfSheet = (r : Rule) → Allowed r → Sheet (sheetOf r) × (ruleIn (sheetOf r) ≡ r)
 
--- a change of any one byte of an accepted sheet gives refusal 2 at that block
+-- whichever one byte of an accepted sheet is altered, the answer is 2 at the block in which it stands
 abbrev pub OneByteChanged : Type 0
 OneByteChanged =
     (s : List ℕ) → Sheet s → (j b : ℕ) → j < length s → b < 256 → (b ≡ byteAt s j → ⊥)

@@ -40,7 +40,7 @@ fn script_answer(sheet: &[u8], room: &mut [u8]) -> usize
     }
 }
 
-// Holds, or fails with the first failing case, or the refusal; a sheet has at most 16 variables.
+// What a check says: that the rule holds, the first case in which it fails, or the refusal.
 fn check_answer(sheet: &[u8], room: &mut [u8]) -> usize
     requires { ⌜ enoughRoom ≤ length (now room) ⌝ }
     ensures { λ r. ⌜ Wrote (answerText Check (now (sheet .entry))) (now (room .entry)) (now (room .exit)) 0 r ⌝ }

@@ -1,4 +1,4 @@
-// The value of a node in a case, found by going down to its operands, whose numbers are smaller.
+// What a node comes to in a case: its operands, which stand before it, are asked first.
 ghost use mathlib.Core.Path.{_≡_};
 ghost use Prim.Native.Nat.{_<_};
 ghost use lib.ListN.{take};

@@ -31,7 +31,7 @@ abbrev pub rangeOf : Finding → Range
 rangeOf Truth = noRange
 rangeOf (Integer r) = r
 
--- kinds 1 to 10 give a truth value, 16 to 22 an integer, whose range follows from the operands' ranges x, y and z; a constant and a variable have x itself
+-- what a kind gives where its operands have the ranges x, y and z: a truth value, or an integer and its range; of a constant and of a variable, x itself
 abbrev pub resultOf : Kind → Range → Range → Range → Finding
 resultOf Kind.Unknown x y z = Truth
 resultOf Kind.True x y z = Truth

@@ -9,7 +9,7 @@ use Rattle.numbers.specs.Ranges.{In, _⋯_}
 use Rattle.meaning.specs.declared.Sort.the-variants.{Truth}
 use Rattle.meaning.specs.Tree.{Tree}
 
--- a variable has a name, and its domain is Z[min,max], the integers i with min ≤ i ≤ max
+-- a variable: its name, and its type Z[min,max] as a range
 pub record Variable : Type 0 where
   pub name : List ℕ
   pub domain : Range
@@ -30,7 +30,7 @@ variableOf r i = getD (r .variables) i noVariable
 abbrev pub domainOf : Rule → ℕ → Range
 domainOf r i = variableOf r i .domain
 
--- a case gives each variable a value of its domain
+-- a case: as many values as there are variables, each from the domain of its own
 pub record Case (r : Rule) (c : List ℤ) : Type 0 where
   pub all : length c ≡ length (r .variables)
   pub each : (i : ℕ) → i < length c → In (domainOf r i) (getD c i (pos 0))

@@ -1,4 +1,4 @@
--- Refusals 6 to 8 as the cascade tests them (document 01, "When a sheet is turned away"): nodes from 0 up, at each 6, 7 and 8; then the goal.
+-- Refusals 6 to 8 as the cascade tests them (document 01, "When a sheet is turned away"): node after node, 6 before 7 before 8, and the goal last.
 use Prim.Native.Nat.{ℕ}
 use mathlib.Core.Bool.{Bool}
 use mathlib.Core.List.{List}

@@ -1,4 +1,4 @@
--- A change of any one byte of an accepted sheet gives refusal 2 at that byte's block. Assumes nothing.
+-- One byte altered in an accepted sheet: the answer is 2 at its block. Assumes nothing.
 use Prim.Native.Nat.{ℕ, _/_, _<_}
 use mathlib.Core.Path.{_≡_}
 use mathlib.Core.List.{List}

@@ -18,7 +18,7 @@ use Rattle.records.specs.Names.{VariableKept}
 use Rattle.findings.specs.declared.Finding.the-variants.{Integer}
 use Rattle.findings.specs.Findings.{findingAt}
 
--- 1: no byte at all, a block left incomplete, or more than nine blocks
+-- 1: no byte at all, a block left incomplete, or more blocks than a sheet may have
 pub data Row1 (s : List ℕ) : Type 0 where
   empty : length s ≡ 0 → Row1 s
   ragged : (length s % blockBytes ≡ 0 → ⊥) → Row1 s
