@@ -5,3 +5,4 @@ pub mod BelowLaws
 pub mod Decided
 pub mod FirstLaws
 pub mod PartLaws
+pub mod JoinedLaws

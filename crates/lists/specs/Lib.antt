@@ -4,3 +4,4 @@ pub mod Course
 pub mod First
 pub mod Part
 pub mod Ascii
+pub mod Joined

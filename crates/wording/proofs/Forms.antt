@@ -8,6 +8,7 @@ use mathlib.Core.Option.{some}
 use native.Mathlib.Omega.{arith}
 use lib.IntN.{ℤ}
 use lib.ListN.{length}
+use Rattle.lists.specs.Joined.{joined}
 use Rattle.meaning.specs.Rule.{Rule}
 use Rattle.layout.specs.WellFormed.{WellFormed}
 use Rattle.smtlib.specs.Tokens.{Atom, symbol, numeral}
@@ -18,7 +19,7 @@ use Rattle.smtlib.specs.Satisfaction.{andThen, scriptOf, Meets, Satisfies}
 use Rattle.smtlib.proofs.Printing.{digitByte, spelling, Spelled, lines-sexps}
 use Rattle.smtlib.proofs.SatisfactionLaws.{satisfies-read}
 use Rattle.wording.specs.Sixteen.{literal, symbolText}
-use Rattle.wording.specs.Script.{linesOf, joined, script}
+use Rattle.wording.specs.Script.{linesOf, ended, script}
 use Rattle.wording.proofs.Sexps.{chainOf, asked, constant16, width16, asked16}
 use Rattle.wording.proofs.Spelt.{lines-printed, chain-listing, literal-spelling, constant-spelled, symbol-spelled, width-spelled}
 use Rattle.wording.proofs.Read.{Texts, chain-read, texts16}
@@ -34,7 +35,7 @@ pub record Form (literal : ℤ → List ℕ) (name : ℕ → List ℕ) (digits :
 
 -- the script in a form
 abbrev pub scriptBy : (ℤ → List ℕ) → (ℕ → List ℕ) → List ℕ → Rule → List ℕ
-scriptBy literal name digits r = joined (linesOf literal name (map digitByte digits) r)
+scriptBy literal name digits r = joined ended (linesOf literal name (map digitByte digits) r)
 
 module _ {literal : ℤ → List ℕ} {name : ℕ → List ℕ} {digits : List ℕ} {m : ℕ} (form : Form literal name digits m)
     (r : Rule) (few : length (r .variables) ≤ m) (f : WellFormed r) where

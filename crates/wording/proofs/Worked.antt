@@ -31,7 +31,7 @@ use Rattle.smtlib.proofs.Running.{scriptRead}
 use Rattle.wording.specs.Words.{wordOf}
 use Rattle.wording.specs.Text.{text}
 use Rattle.wording.specs.Sixteen.{hexDigit, hexText, literal, symbolText}
-use Rattle.wording.specs.Script.{joined, script}
+use Rattle.wording.specs.Script.{script}
 use Rattle.wording.proofs.Sexps.{sexp, constant16, width16, asked16}
 use Rattle.wording.proofs.Spelt.{text16-printed, printable16}
 use Rattle.wording.proofs.Read.{Has, symbol-stands, setting-sorted, texts16}
@@ -103,7 +103,7 @@ bytesA =
     ++ ascii "(exit)\n"))))))
 
 pub scriptA : script ruleA ≡ bytesA
-unfolding script joined ofTree by-rows wordOf symbolText literal hexText hexDigit enc
+unfolding script ofTree by-rows wordOf symbolText literal hexText hexDigit enc
 scriptA = refl
 
 pub lengthA : length (script ruleA) ≡ 234
