@@ -9,6 +9,7 @@ ghost use Rattle.room.specs.Room.{Wrote};
 ghost use Rattle.pieces.specs.Sizes.{longestSymbol};
 ghost use Rattle.lines.specs.Lines.{declarationLine, rangeStart, rangeEnd, rangeLine, declarationBytes, startBytes, endBytes, rangeBytes, linesBytes, LinesSize};
 use numbers::VariableNumber;
+use pieces::BLANK;
 use pieces::CONSTANT_BYTES;
 
 // The texts that stand around symbols and constants.
@@ -19,8 +20,6 @@ const SORTED: [u8; 19] = *b" () (_ BitVec 16))\n";
 const LOWEST: [u8; 20] = *b"(assert (and (bvsle ";
 
 const HIGHEST: [u8; 9] = *b") (bvsle ";
-
-const BLANK: [u8; 1] = *b" ";
 
 const CLOSED: [u8; 4] = *b")))\n";
 

@@ -27,7 +27,7 @@ use Rattle.wording.specs.Script.{claims, declarations, assertion, joined, scrip
 use Rattle.room.specs.Room.{texts}
 use Rattle.lines.specs.Lines.{declarationLine, rangeLine, variablesLength}
 use Rattle.lines.proofs.LineLaws.{variables-length}
-use Rattle.terms.specs.Texts.{Ready, textAt}
+use Rattle.terms.specs.Texts.{AcceptedNode, textAt}
 use Rattle.terms.proofs.TextLaws.{text-short}
 use Rattle.writer.specs.Ending.{goalLines}
 use Rattle.writer.specs.Writes.{enoughRoom}
@@ -122,7 +122,7 @@ module _ (s : List ℕ) (e : refusalOf s ≡ none) where
   script-length = omega (arith, script-parts refl, goal-length, variables-length s (variableCount s))
 
   -- the goal's node
-  pub goal-ready : {n : ℕ} → n ≡ nodeCount s - 1 → Ready s n
+  pub goal-ready : {n : ℕ} → n ≡ nodeCount s - 1 → AcceptedNode s n
   goal-ready g = record { accepted = e; below = omega (arith, accepted-counted s e .some-node) }
 
   -- the first block is there
