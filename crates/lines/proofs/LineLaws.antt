@@ -1,11 +1,13 @@
 -- The lines of variables from their pieces, one more line in the room, and how long they are. Assumes nothing.
-use Prim.Native.Nat.{ℕ, _+_}
+use Prim.Native.Nat.{ℕ, zero, suc, _+_, _*_, _≤_}
 use mathlib.Core.Path.{_≡_, sym, _∙_}
 use mathlib.Core.List.{List, _++_, append-assoc}
+use native.Mathlib.Numerals.{add-one}
 use native.Mathlib.Omega.{arith}
 use lib.Dec.{lit≤}
 use lib.ListN.{length, length-append}
 use Rattle.lists.specs.Ascii.{ascii}
+use Rattle.lists.specs.Joined.{joinedBelow}
 use Rattle.lists.proofs.JoinedLaws.{joined-none, length-more}
 use Rattle.numbers.specs.Bytes.{Bytes, u16At}
 use Rattle.numbers.proofs.Bytes16.{u16-lt, enc16-dec16}
@@ -14,6 +16,7 @@ use Rattle.layout.specs.Limits.{variablePlace}
 use Rattle.layout.specs.Fold.{ofTree}
 use Rattle.wording.specs.Words.{wordOf}
 use Rattle.wording.specs.Sixteen.{hexText, literal, symbolText}
+use Rattle.pieces.specs.Sizes.{longestSymbol}
 use Rattle.pieces.proofs.PieceLaws.{hex-length, literal-length, symbol-short}
 use Rattle.lines.specs.Lines.{declarationLine, rangeStart, rangeEnd, rangeLine, declare, sorted, lowest, highest, blank, closed, declarationBytes, startBytes, rangeBytes, linesBytes, LinesSize}
 
@@ -30,15 +33,16 @@ pub range-length : (s : List ℕ) (i : ℕ) → length (rangeLine s i) ≡ range
 unfolding rangeLine ofTree by-rows wordOf
 range-length s i = simp (length-append, literal-length) (omega arith)
 
--- both lines of the first variables: none, and one more
+-- both lines of the first variables: none, one more, and how long they can be
 pub lines-none : LinesSize 0 0
-lines-none = record { each = λ s. rw (joined-none declarationLine, joined-none (rangeLine s)); few = lit≤ tt }
+lines-none = record { of = λ s. rw (joined-none declarationLine, joined-none (rangeLine s)) }
 
 pub lines-more : {n size k : ℕ} → LinesSize n size → k ≡ linesBytes (length (symbolText n)) → LinesSize (n + 1) (size + k)
-lines-more {n} {size} {k} l e = record {
-  each = λ s. omega (arith, l .each s, length-more declarationLine n, length-more (rangeLine s) n, declaration-length n, range-length s n);
-  few = omega (arith, l .few, symbol-short n);
-}
+lines-more {n} l e = record { of = λ s. omega (arith, l .of s, length-more declarationLine n, length-more (rangeLine s) n, declaration-length n, range-length s n) }
+
+pub lines-short : (s : List ℕ) (n : ℕ) → length (joinedBelow declarationLine n) + length (joinedBelow (rangeLine s) n) ≤ linesBytes longestSymbol * n
+lines-short s zero = rw (joined-none declarationLine, joined-none (rangeLine s)) (lit≤ tt)
+lines-short s (suc n) = omega (arith, lines-short s n, rw add-one at (length-more declarationLine n), rw add-one at (length-more (rangeLine s) n), declaration-length n, range-length s n, symbol-short n)
 
 -- ---- lines from their pieces
 pub declaration-is : (i : ℕ) → declare ++ symbolText i ++ sorted ≡ declarationLine i

@@ -1,5 +1,5 @@
 -- The lines of a script that are about variables, one by one, and how many bytes they are: what the functions of this crate write and count.
-use Prim.Native.Nat.{ℕ, _+_, _*_, _≤_}
+use Prim.Native.Nat.{ℕ, _+_}
 use mathlib.Core.Path.{_≡_}
 use mathlib.Core.List.{List, _++_}
 use lib.ListN.{length}
@@ -8,7 +8,7 @@ use Rattle.lists.specs.Joined.{joinedBelow}
 use Rattle.layout.specs.Parts.{variableAt}
 use Rattle.wording.specs.Sixteen.{hexText, literal, symbolText, widthText}
 use Rattle.wording.specs.Script.{inDomain, declaration, assertion, ended}
-use Rattle.pieces.specs.Sizes.{constantBytes, longestSymbol}
+use Rattle.pieces.specs.Sizes.{constantBytes}
 
 -- variable i's declaration line and range line
 unfoldable pub declarationLine : ℕ → List ℕ
@@ -59,7 +59,6 @@ rangeBytes k = startBytes k + endBytes k
 abbrev pub linesBytes : ℕ → ℕ
 linesBytes k = declarationBytes k + rangeBytes k
 
--- both lines of the first n variables, whatever the sheet
+-- so many bytes are both lines of the first n variables, whatever the sheet
 pub record LinesSize (n size : ℕ) : Type 0 where
-  pub each : (s : List ℕ) → size ≡ length (joinedBelow declarationLine n) + length (joinedBelow (rangeLine s) n)
-  pub few : size ≤ linesBytes longestSymbol * n
+  pub of : (s : List ℕ) → size ≡ length (joinedBelow declarationLine n) + length (joinedBelow (rangeLine s) n)
