@@ -2,13 +2,14 @@
 use native.Mathlib.Omega.{arith}
 use borrow.Author.Needs.{needs}
 use Rattle.room.proofs.RoomLaws.{wrote-as, chain3}
-use Rattle.writer.proofs.ScriptLaws.{first-block}
+use Rattle.header.proofs.HeaderLaws.{block-inside}
+use Rattle.reading.proofs.RuleLaws.{accepted-counted}
 use Rattle.phrases.proofs.NameValueLaws.{fails-from}
 use Rattle.phrases.proofs.fails_line.Statement.{statement}
 use Rattle.phrases.proofs.fails_line.Tie as tie
 
 variable-count-requires : tie.Need-variable-count-requires
-variable-count-requires c κs = first-block _ (c .before .before .pre .0 .accepted)
+variable-count-requires c κs = block-inside (accepted-counted _ (c .before .before .pre .0 .accepted))
 
 put-name-values-requires : tie.Need-put-name-values-requires
 put-name-values-requires c κs = (c .before .before .before .before .before .before .before .before .before .pre .0, omega (arith, c .before .before .before .before .before .before .variable-count .ensures), omega arith)

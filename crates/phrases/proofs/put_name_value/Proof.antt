@@ -1,4 +1,4 @@
--- `put_name_value` meets its contract: all of it is at most 24 bytes. Assumes nothing.
+-- `put_name_value` meets its contract: a name and a value have at most so many bytes. Assumes nothing.
 use native.Mathlib.Omega.{arith}
 use borrow.Author.Needs.{needs}
 use Rattle.room.proofs.RoomLaws.{wrote-as, chain4}

@@ -1,17 +1,18 @@
--- `put_name_values` meets its contract: after i turns the room has the first i variables in it, at most 24 bytes for each. Assumes nothing.
+-- `put_name_values` meets its contract: after i turns the room has the first i variables in it, none of them longer than the longest. Assumes nothing.
 use Prim.Native.Nat.{_+_, _-_, _*_, _≤_}
 use mathlib.Core.Path.{_≡_, ap}
 use native.Mathlib.Omega.{arith}
 use lib.ListN.{length}
 use Rattle.room.specs.Room.{Wrote}
 use Rattle.room.proofs.RoomLaws.{wrote-as}
+use Rattle.phrases.specs.Sizes.{longestNameValue}
 use Rattle.phrases.specs.Pieces.{nameValuesAt}
 use Rattle.phrases.proofs.NameValueLaws.{few-variables, begin, turn}
 use Rattle.phrases.proofs.put_name_values.Statement.{statement}
 use Rattle.phrases.proofs.put_name_values.Tie as tie
 
 abbrev Inv-loop : tie.InvT-loop
-Inv-loop sheet row count room₀ at next₀ i₀ room next i = (i ≤ count) × (next ≤ at + 24 * i) × (length room ≡ length room₀) × Wrote (nameValuesAt sheet row i) room₀ room at next
+Inv-loop sheet row count room₀ at next₀ i₀ room next i = (i ≤ count) × (next ≤ at + longestNameValue * i) × (length room ≡ length room₀) × Wrote (nameValuesAt sheet row i) room₀ room at next
 
 abbrev μ-loop : tie.MeasureT-loop
 μ-loop sheet row count room₀ at next₀ i₀ room next i = count - i
