@@ -97,10 +97,10 @@ pub fn range_lines(sheet: &[u8], room: &mut [u8], at: usize, count: usize) -> us
     ensures { λ r. ⌜ Wrote (joinedBelow (rangeLine (now (sheet .entry))) count) (now (room .entry)) (now (room .exit)) at r ⌝ }
 {
     let mut next = at;
-    let mut i: usize = 0;
-    while i < count {
-        next = range_line(sheet, room, next, VariableNumber(i as u16));
-        i += 1;
+    let mut variable: usize = 0;
+    while variable < count {
+        next = range_line(sheet, room, next, VariableNumber(variable as u16));
+        variable += 1;
     }
     next
 }
