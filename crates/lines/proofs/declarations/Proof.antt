@@ -25,7 +25,10 @@ declaration-requires : tie.Need-declaration-requires Inv-loop μ-loop
 declaration-requires c κs = (omega arith, omega (arith, length-within declarationLine {n = c .before .before .loop .i} {m = c .before .before .before .before .args .count} (omega arith), declaration-length (c .before .before .loop .i)))
 
 loop-again : tie.Need-loop-again Inv-loop μ-loop
-loop-again c = (omega arith, omega arith, wrote-more declarationLine {m = c .before .before .before .before .before .before .before .args .count} (omega arith) (omega arith) (c .before .before .before .before .before .loop .inv .2) (c .before .before .declaration .ensures))
+loop-again c =
+    let at-loop = c .before .before .before .before .before in
+    let start = at-loop .before .before in
+    (omega arith, omega arith, wrote-more declarationLine {m = start .args .count} (omega arith) (omega arith) (at-loop .loop .inv .2) (c .before .before .declaration .ensures))
 
 returns : tie.Need-returns Inv-loop μ-loop
 returns c = let e : c .before .loop .i ≡ c .before .before .before .args .count = omega arith in wrote-as (c .before .loop .inv .2) (ap (joinedBelow declarationLine) e)

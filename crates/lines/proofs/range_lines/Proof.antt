@@ -22,10 +22,15 @@ loop-holds : tie.Need-loop-holds Inv-loop μ-loop
 loop-holds c = (omega arith, omega arith, wrote-no-texts _ _ _)
 
 range-line-requires : tie.Need-range-line-requires Inv-loop μ-loop
-range-line-requires c κs = (omega arith, omega arith, omega (arith, length-within (rangeLine (c .before .before .before .before .before .args .sheet .now)) {n = c .before .before .loop .variable} {m = c .before .before .before .before .before .args .count} (omega arith), range-length (c .before .before .before .before .before .args .sheet .now) (c .before .before .loop .variable)))
+range-line-requires c κs =
+    let start = c .before .before .before .before .before in
+    (omega arith, omega arith, omega (arith, length-within (rangeLine (start .args .sheet .now)) {n = c .before .before .loop .variable} {m = start .args .count} (omega arith), range-length (start .args .sheet .now) (c .before .before .loop .variable)))
 
 loop-again : tie.Need-loop-again Inv-loop μ-loop
-loop-again c = (omega arith, omega arith, wrote-more (rangeLine (c .before .before .before .before .before .before .before .before .args .sheet .now)) {m = c .before .before .before .before .before .before .before .before .args .count} (omega arith) (omega arith) (c .before .before .before .before .before .loop .inv .2) (c .before .before .range-line .ensures))
+loop-again c =
+    let at-loop = c .before .before .before .before .before in
+    let start = at-loop .before .before .before in
+    (omega arith, omega arith, wrote-more (rangeLine (start .args .sheet .now)) {m = start .args .count} (omega arith) (omega arith) (at-loop .loop .inv .2) (c .before .before .range-line .ensures))
 
 returns : tie.Need-returns Inv-loop μ-loop
 returns c = let e : c .before .loop .variable ≡ c .before .before .before .before .args .count = omega arith in wrote-as (c .before .loop .inv .2) (ap (joinedBelow (rangeLine (c .before .before .before .before .args .sheet .now))) e)
