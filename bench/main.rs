@@ -1,9 +1,13 @@
 // Times the library's check beside the ordinary evaluator, in one process, slice by slice in turn. A slice
-// takes 25 ms or less; of each side the quickest slice counts, since the machine may be busy with other work.
+// takes 25 ms or less; of each side the quickest slice counts, since the machine may be busy with other work. With
+// the word 'once', one slice of the smallest rule is all: that shows that it works, and measures nothing.
 
+#[path = "../tests/layout.rs"]
+mod layout;
+#[path = "../tests/limits.rs"]
+mod limits;
 mod ordinary;
 mod rules;
-mod stack;
 
 use std::time::{Duration, Instant};
 
@@ -12,24 +16,27 @@ extern "C" {
 }
 
 const SLICE: Duration = Duration::from_millis(25);
-const ROUNDS: usize = 7;
-const SLICES: usize = 20;
+/// How many rounds, and how many slices in each.
+const WHOLE: (usize, usize) = (7, 20);
+const ONCE: (usize, usize) = (1, 1);
 const CASES: [usize; 10] =
     [1_000_000, 500_000, 200_000, 100_000, 50_000, 20_000, 10_000, 5_000, 2_000, 1_000];
 
 fn main() {
+    let once = std::env::args().nth(1).as_deref() == Some("once");
+    let (rounds, slices) = if once { ONCE } else { WHOLE };
     println!(
         "slices of at most {} ms, {} rounds of {} on each side in turn",
         SLICE.as_millis(),
-        ROUNDS,
-        SLICES
+        rounds,
+        slices
     );
     println!("nodes     cases   library  ordinary   ratio   lowest and highest of the rounds");
-    for nodes in [3, 7, 31, 247] {
-        compare(nodes);
+    compare(3, rounds, slices);
+    if !once {
+        [7, 31, 247].into_iter().for_each(|nodes| compare(nodes, rounds, slices));
+        one_call(247);
     }
-    one_call(247);
-    tell_stack();
 }
 
 fn library(sheet: &[u8]) -> u64 {
@@ -64,18 +71,18 @@ fn quickest(check: Check, sheet: &[u8], calls: u32, slices: usize) -> Duration {
 }
 
 /// Each side's quickest slice of a round, the sides taking turns.
-fn round(sheet: &[u8], calls: u32) -> (Duration, Duration) {
-    (0..SLICES)
+fn round(sheet: &[u8], calls: u32, slices: usize) -> (Duration, Duration) {
+    (0..slices)
         .map(|_| (time(library, sheet, calls), time(ordinary, sheet, calls)))
         .reduce(|best, slice| (best.0.min(slice.0), best.1.min(slice.1)))
         .expect("a slice")
 }
 
-fn compare(nodes: usize) {
+fn compare(nodes: usize, rounds: usize, slices: usize) {
     let (sheet, cases) = fitting(nodes);
     let slower = [library, ordinary].iter().map(|&check| quickest(check, &sheet, 1, 3)).max();
     let calls = (SLICE.as_nanos() / 2 / slower.expect("two sides").as_nanos().max(1)).clamp(1, 10_000) as u32;
-    let rounds: Vec<(Duration, Duration)> = (0..ROUNDS).map(|_| round(&sheet, calls)).collect();
+    let rounds: Vec<(Duration, Duration)> = (0..rounds).map(|_| round(&sheet, calls, slices)).collect();
     let ratio = |(library, ordinary): (Duration, Duration)| library.as_secs_f64() / ordinary.as_secs_f64();
     let best = rounds.iter().copied().reduce(|best, round| (best.0.min(round.0), best.1.min(round.1)));
     let (library, ordinary) = best.expect("rounds");
@@ -90,7 +97,7 @@ fn compare(nodes: usize) {
         per_case(ordinary),
         ratio((library, ordinary)),
         ratios[0],
-        ratios[ROUNDS - 1]
+        ratios[ratios.len() - 1]
     );
 }
 
@@ -104,24 +111,4 @@ fn one_call(nodes: usize) {
         library.as_secs_f64(),
         ordinary.as_secs_f64()
     );
-}
-
-fn tell_stack() {
-    let sheets = [
-        ("3 nodes", rules::rule(3)),
-        ("247 nodes", rules::rule(247)),
-        ("248 nodes, not over not", rules::deepest(3)),
-        ("248 nodes, minus over minus", rules::deepest(18)),
-    ];
-    let nothing = stack::taken(|| {}).expect("nothing takes little");
-    for (name, rule) in sheets {
-        let sheet = rules::sheet(&rule, 10);
-        let bytes = stack::taken(move || {
-            library(&sheet);
-        });
-        match bytes {
-            Some(bytes) => println!("stack of a call of check, {}: {} bytes", name, bytes - nothing),
-            None => println!("stack of a call of check, {}: more than is measured", name),
-        }
-    }
 }

@@ -1,6 +1,8 @@
 // An ordinary evaluator, as one would write it in Rust: the sheet decoded to a tree, the tree evaluated by
 // recursion in one case after the other. It takes the sheet to be right.
 
+use crate::layout::*;
+
 enum Formula {
     True,
     False,
@@ -62,13 +64,13 @@ impl Term {
 }
 
 fn i16_at(sheet: &[u8], at: usize) -> i32 {
-    i16::from_le_bytes([sheet[at], sheet[at + 1]]).into()
+    i32::from(number_at(sheet, at) as i16)
 }
 
 fn decoded(sheet: &[u8]) -> Formula {
     let (mut formulas, mut terms): (Vec<Formula>, Vec<Term>) = (Vec::new(), Vec::new());
-    for number in 0..usize::from(sheet[2]) {
-        let at = 512 * (1 + number / 31) + 16 * (number % 31);
+    for number in 0..node_count(sheet) {
+        let at = node_at(number);
         // The last operand was pushed last.
         let mut f = || Box::new(formulas.pop().expect("a formula"));
         let mut t = || Box::new(terms.pop().expect("a term"));
@@ -85,8 +87,8 @@ fn decoded(sheet: &[u8]) -> Formula {
             10 => turned(t(), t(), Formula::AtMost),
             kind => {
                 let term = match kind {
-                    16 => Term::Constant(i16_at(sheet, at + 8)),
-                    17 => Term::Variable(sheet[at + 2].into()),
+                    16 => Term::Constant(i16_at(sheet, at + VALUE)),
+                    17 => Term::Variable(number_at(sheet, at + FIELDS).into()),
                     18 => Term::Minus(t()),
                     19 => turned(t(), t(), Term::Sum),
                     20 => turned(t(), t(), Term::Difference),
@@ -112,8 +114,9 @@ fn turned<A, B>(last: Box<A>, first: Box<A>, make: fn(Box<A>, Box<A>) -> B) -> B
 /// The first failing case.
 pub fn check(sheet: &[u8]) -> Option<Vec<i32>> {
     let goal = decoded(sheet);
-    let ends: Vec<(i32, i32)> = (0..usize::from(sheet[4]))
-        .map(|variable| (i16_at(sheet, 8 + 24 * variable), i16_at(sheet, 10 + 24 * variable)))
+    let ends: Vec<(i32, i32)> = (0..usize::from(sheet[VARIABLE_COUNT]))
+        .map(variable_at)
+        .map(|at| (i16_at(sheet, at + LEAST), i16_at(sheet, at + GREATEST)))
         .collect();
     let mut case: Vec<i32> = ends.iter().map(|end| end.0).collect();
     loop {

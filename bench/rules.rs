@@ -1,9 +1,10 @@
 // Rules that hold in every case, so that all cases are tried, as sheets of 3, 7, 31 and 247 nodes.
 
-const BLOCK: usize = 512;
+use crate::layout::*;
+
 pub const VARIABLES: usize = 6;
-const LEAST: i16 = -4;
-const GREATEST: i16 = 5;
+const LOWEST: i16 = -4;
+const HIGHEST: i16 = 5;
 
 /// A node's kind, a constant's value or a variable's number, and its operands.
 pub struct Tree {
@@ -32,11 +33,11 @@ fn piece(which: usize) -> Tree {
     match which % 8 {
         0 => two(8, two(19, x(), y()), two(19, y(), x())),
         1 => two(8, two(21, x(), y()), two(21, y(), x())),
-        2 => two(10, two(20, x(), y()), two(20, x(), constant(LEAST))),
-        3 => two(10, two(19, x(), constant(LEAST)), two(19, x(), y())),
-        4 => two(6, two(9, x(), constant(LEAST)), two(8, x(), y())),
-        5 => two(5, two(10, x(), constant(GREATEST)), two(9, y(), x())),
-        6 => two(10, node(22, vec![node(1, vec![]), x(), y()]), node(18, vec![constant(-GREATEST)])),
+        2 => two(10, two(20, x(), y()), two(20, x(), constant(LOWEST))),
+        3 => two(10, two(19, x(), constant(LOWEST)), two(19, x(), y())),
+        4 => two(6, two(9, x(), constant(LOWEST)), two(8, x(), y())),
+        5 => two(5, two(10, x(), constant(HIGHEST)), two(9, y(), x())),
+        6 => two(10, node(22, vec![node(1, vec![]), x(), y()]), node(18, vec![constant(-HIGHEST)])),
         _ => two(7, two(9, x(), y()), two(9, x(), y())),
     }
 }
@@ -52,64 +53,33 @@ fn all_of(from: usize, to: usize) -> Tree {
 /// A rule of this many nodes: 3, or one less than a multiple of 8.
 pub fn rule(nodes: usize) -> Tree {
     match nodes {
-        3 => node(10, vec![variable(0), constant(GREATEST)]),
+        3 => node(10, vec![variable(0), constant(HIGHEST)]),
         _ => all_of(0, (nodes + 1) / 8),
-    }
-}
-
-/// A tree of 248 nodes that is as deep as it can be.
-pub fn deepest(kind: u8) -> Tree {
-    match kind {
-        3 => (0..247).fold(node(1, vec![]), |tree, _| node(3, vec![tree])),
-        _ => {
-            let minus = (0..245).fold(variable(0), |tree, _| node(18, vec![tree]));
-            node(10, vec![minus, constant(-LEAST)])
-        }
     }
 }
 
 /// The sheet of a rule with this many cases: 1, 2 or 5 times a power of ten, 1,000,000 at most.
 pub fn sheet(rule: &Tree, mut cases: usize) -> Vec<u8> {
+    let variables: Vec<VariableRecord> = (b'a'..)
+        .take(VARIABLES)
+        .map(|name| {
+            let values = cases.min(10);
+            cases /= values;
+            variable_record(LOWEST.into(), i64::from(LOWEST) + values as i64 - 1, &[name])
+        })
+        .collect();
     let mut nodes = Vec::new();
     push(rule, &mut nodes);
-    let mut sheet = vec![0; BLOCK * (1 + (nodes.len() + 30) / 31)];
-    sheet[..5].copy_from_slice(&[1, 0, nodes.len() as u8, 0, VARIABLES as u8]);
-    for number in 0..VARIABLES {
-        let values = cases.min(10);
-        cases /= values;
-        let record = &mut sheet[8 + 24 * number..][..24];
-        record[..2].copy_from_slice(&LEAST.to_le_bytes());
-        record[2..4].copy_from_slice(&(LEAST + values as i16 - 1).to_le_bytes());
-        record[4] = 1;
-        record[6] = b'a' + number as u8;
-    }
-    for (number, record) in nodes.iter().enumerate() {
-        sheet[BLOCK * (1 + number / 31) + 16 * (number % 31)..][..16].copy_from_slice(record);
-    }
-    seal(&mut sheet);
-    sheet
+    lay_out(&variables, &nodes)
 }
 
 /// Writes a tree's records, operands first, and gives the number of the last.
-fn push(tree: &Tree, nodes: &mut Vec<[u8; 16]>) -> u16 {
+fn push(tree: &Tree, nodes: &mut Vec<NodeRecord>) -> u16 {
     let operands: Vec<u16> = tree.operands.iter().map(|operand| push(operand, nodes)).collect();
-    let mut record = [0; 16];
-    record[0] = tree.kind;
-    for (field, operand) in record[2..8].chunks_exact_mut(2).zip(operands) {
-        field.copy_from_slice(&operand.to_le_bytes());
-    }
-    match tree.kind {
-        16 => record[8..10].copy_from_slice(&tree.leaf.to_le_bytes()),
-        17 => record[2..4].copy_from_slice(&tree.leaf.to_le_bytes()),
-        _ => {}
-    }
-    nodes.push(record);
+    nodes.push(match tree.kind {
+        16 => node_record(16, &[], tree.leaf as u16),
+        17 => node_record(17, &[tree.leaf as u16], 0),
+        kind => node_record(kind, &operands, 0),
+    });
     nodes.len() as u16 - 1
-}
-
-fn seal(sheet: &mut [u8]) {
-    for (k, block) in sheet.chunks_exact_mut(BLOCK).enumerate() {
-        let sum: usize = block[..510].iter().enumerate().map(|(i, &byte)| (i + 1) * usize::from(byte)).sum();
-        block[510..].copy_from_slice(&(((k + 1 + sum) % 65_521) as u16).to_le_bytes());
-    }
 }

@@ -1,34 +1,78 @@
-/* Ragwashin's C interface. Every function takes any bytes and any numbers, ends, and reads nothing but the bytes lent. */
+/* Ragwashin's C interface: six calls on the bytes of a rule sheet.
+
+   What a caller owes:
+   - A pointer is valid for its length: sheet_len bytes can be read at sheet, room_len bytes or numbers can be
+     written at room. With length 0 nothing is looked at, and any pointer will do, NULL too. A pointer to numbers
+     is aligned for them.
+   - The room lies apart from the sheet, and while a call runs nothing else writes to the sheet or uses the room.
+   - Calls keep nothing from one to the next and share no data: several threads may call at once, also with the
+     same sheet, if each has a room of its own.
+   - A call takes at most 32 KB of stack (32,768 bytes; measured, see README.md), no heap, and of the C library
+     memcpy and memset alone.
+
+   What a call owes: whatever the bytes and numbers, it returns, reads no byte that isn't lent, and writes to
+   nothing but the room, as said below. All of this is proved of the source.
+
+   A call that refuses says so in one number: refusal * 2^48 + place. There are V variables and N nodes; the goal is
+   the last node. Of several causes the first counts: 1 to 5 in order, each over the whole sheet; then, at one node
+   after the other, 6, 7, 8; then 6 and 7 of the goal as such; then 10; then 9.
+
+   no.  what is wrong                                                                    place
+   1    the length is zero, no multiple of 512, or over 4,608                            0
+   2    a block's check is wrong                                                         the lowest such block
+   3    the edition isn't 1                                                              0
+   4    N isn't in 1..248, V is over 16, the length isn't that of N nodes, or a byte     0
+        outside the records of the variables and nodes should be zero and isn't
+   5    a variable's record: min is over max; the name isn't a letter and then at most   the lowest such variable;
+        15 letters, digits or underscores; a byte should be zero and isn't; or an        of two with one name
+        earlier variable has the same name                                               the later
+   6    a node's record: the kind isn't known; a field or byte that it doesn't use       the node
+        isn't zero; an operand isn't the node that the order puts there, or the order
+        has none there; a variable's number isn't below V
+        the goal's tree isn't all nodes                                                  N - 1
+   7    an operand is a number and should be a truth value, or the other way round       the node
+        the goal is a number                                                             N - 1
+   8    a node's range goes below -32,768 or above 32,767                                the node
+   9    the room is too short                                                            what is needed, in numbers
+                                                                                         (check) or bytes (script)
+   10   there are more than 1,000,000 cases (check and tally only)                       0 */
 #ifndef RAGWASHIN_H
 #define RAGWASHIN_H
 
 #include <stddef.h>
 #include <stdint.h>
 
+/* The longest sheet; a longer one is refused by its length, so that one byte more is all that need be read. */
+#define RAGWASHIN_MOST_SHEET_BYTES 4608
+
+/* Rooms that always do: for the check in numbers, for the script in bytes. */
+#define RAGWASHIN_CHECK_ROOM 16
+#define RAGWASHIN_SCRIPT_ROOM 4096
+
 #ifdef __cplusplus
 extern "C" {
 #endif
 
-/* Reads a sheet. High 16 bits: the refusal's number, 0 where the sheet is accepted; low 48 bits: the refusal's place, else 0. */
+/* Reads a sheet. 0 where it is accepted, or a refusal, 1 to 8. */
 uint64_t ragwashin_read(const uint8_t *sheet, size_t sheet_len);
 
 /* A variable's name: its offset in the sheet times 65,536 plus its length; 0 where the sheet is refused or there is no such variable. */
 uint64_t ragwashin_name(const uint8_t *sheet, size_t sheet_len, uint16_t variable);
 
-/* A block's content: 510, and the bytes stand at 512 times k; 0 where the block isn't wholly inside or its check is wrong. */
+/* A block's content: 510, and the bytes stand at 512 times k; 0 where the block isn't wholly inside or its check is wrong. Of the sheet
+   nothing else is looked at. */
 uint64_t ragwashin_block(const uint8_t *sheet, size_t sheet_len, uint64_t k);
 
-/* Tries all cases. High 16 bits: the refusal's number, 0 where all were tried; low 48 bits: the refusal's place, else 0 where the rule holds
-   and 1 where it fails. Where it fails, the first failing case stands at the front of the room, a number for each variable; nothing else of
-   the room is ever changed. room_len counts numbers. */
+/* Tries all cases. 0 where the rule holds, 1 where it fails, or a refusal, 1 to 10. Where it fails, the first failing case stands at the front of
+   the room, a number for each variable, variable 0 first; nothing else of the room is ever changed. room_len counts numbers; with fewer than
+   there are variables the refusal is 9, also where the rule holds. */
 uint64_t ragwashin_check(const uint8_t *sheet, size_t sheet_len, int16_t *room, size_t room_len);
 
-/* Counts the cases. High 16 bits: the refusal's number, 0 where all were counted; low 48 bits: the refusal's place, else the number of cases
-   that held times 2^24 plus the number that failed. */
+/* Counts the cases. The number that held times 2^24 plus the number that failed, or a refusal, 1 to 8 or 10. */
 uint64_t ragwashin_tally(const uint8_t *sheet, size_t sheet_len);
 
-/* Writes the script. High 16 bits: the refusal's number, 0 where it is written; low 48 bits: the refusal's place, else the bytes written, which
-   stand at the front of the room; nothing else of the room is ever changed. 4,096 bytes are enough for every sheet. */
+/* Writes the script. The number of its bytes, which stand at the front of the room, or a refusal, 1 to 9; nothing else of the room is ever
+   changed. */
 uint64_t ragwashin_script(const uint8_t *sheet, size_t sheet_len, uint8_t *room, size_t room_len);
 
 #ifdef __cplusplus

@@ -4,7 +4,7 @@
 #include <stdio.h>
 
 /* The longest sheet and one byte more: a longer file is refused by its length. */
-static uint8_t sheet[4609];
+static uint8_t sheet[RAGWASHIN_MOST_SHEET_BYTES + 1];
 static size_t sheet_len;
 
 /* An answer's high 16 bits are the refusal's number, its low 48 bits the place or what was asked for. */
@@ -28,8 +28,8 @@ static void print_case(const int16_t *room) {
 }
 
 static void check(void) {
-    int16_t room[16];
-    uint64_t answer = ragwashin_check(sheet, sheet_len, room, 16);
+    int16_t room[RAGWASHIN_CHECK_ROOM];
+    uint64_t answer = ragwashin_check(sheet, sheet_len, room, RAGWASHIN_CHECK_ROOM);
     if (refused("check", answer))
         return;
     printf(low(answer) == 0 ? "check: holds" : "check: fails");
@@ -45,7 +45,7 @@ static void tally(void) {
 }
 
 static void script(void) {
-    static uint8_t room[4096];
+    static uint8_t room[RAGWASHIN_SCRIPT_ROOM];
     uint64_t answer = ragwashin_script(sheet, sheet_len, room, sizeof room);
     if (!refused("script", answer))
         printf("script: %d bytes\n", (int)low(answer));

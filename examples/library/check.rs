@@ -3,7 +3,7 @@
 
 use std::{env, fs, process};
 
-// As include/ragwashin.h has them. They take any bytes, and read and write nothing but what is lent.
+// As include/ragwashin.h has them. They take any bytes, and slices meet all that they ask of a caller.
 extern "C" {
     fn ragwashin_read(sheet: *const u8, sheet_len: usize) -> u64;
     fn ragwashin_name(sheet: *const u8, sheet_len: usize, variable: u16) -> u64;

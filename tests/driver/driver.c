@@ -1,8 +1,8 @@
 /* Puts trials to the library: reads them on standard input, calls the archive's functions (by the part
    that it is linked with) and writes the answers. The lent sheet ends where a page without access begins,
    and so does the lent room, so that a look or a store past it ends the program; some are lent a second
-   time right after such a page, and must be answered alike. Answers are written trial by trial, so that the
-   last one written tells where the program ended. A trial is as the oracle has it. With an argument, the
+   time right after such a page, or as a null pointer where the length is 0, and must be answered alike.
+   Answers are written trial by trial, so that the last one written tells where the program ended. A trial is as the oracle has it. With an argument, the
    driver itself goes past or before what it lends, to show that this is caught. No headers: the kit has
    none. */
 #include "driver.h"
@@ -89,6 +89,9 @@ static int kept_beside(byte *room, size bytes, enum side side, unsigned pattern)
     return 1;
 }
 
+/* Nothing can be lent in two ways: as the end of an area, or as no place at all. */
+static byte *null_or(byte *place, size bytes, enum side side) { return bytes == 0 && side == START ? 0 : place; }
+
 /* Writes the answer to one question, and the room after it; gives a status and adds what was written. */
 static int answer_one(const byte *question, const byte *sheet, size length, enum side side, byte *to, size *at) {
     unsigned long asked = number(question + 1, 8), said;
@@ -96,7 +99,7 @@ static int answer_one(const byte *question, const byte *sheet, size length, enum
     size room_length = asked & 0xffffffff, bytes = room_length * room_unit(question[0]);
     if (bytes + BESIDE > MOST_ROOM || *at + 8 + bytes > MOST_ANSWERS) return TOO_MUCH;
     byte *room = side == END ? rooms + MOST_ROOM - bytes : rooms;
-    struct lent lent = {sheet, length, room, room_length};
+    struct lent lent = {sheet, length, null_or(room, bytes, side), room_length};
     fill(room, bytes, side, pattern);
     if (!answer(question[0], asked, lent, &said)) return NO_SUCH_SUBJECT;
     if (!kept_beside(room, bytes, side, pattern)) return CHANGED_BESIDE_ROOM;
@@ -108,7 +111,7 @@ static int answer_one(const byte *question, const byte *sheet, size length, enum
 
 /* Lends the kept bytes on this side and writes the answers to all questions. */
 static int answer_all(enum side side, size length, size count, byte *to, size *written) {
-    byte *sheet = side == END ? sheets + MOST_BYTES - length : sheets;
+    byte *sheet = side == END ? sheets + MOST_BYTES - length : null_or(sheets, length, side);
     copy(sheet, kept, length);
     *written = 0;
     for (size q = 0; q < count; q++) {

@@ -1,11 +1,10 @@
 // The answers that a rule's sheet must get, found from its text: the sheet's bytes are not looked at.
 
 use crate::cases::{self, Case};
+use crate::limits::{BLOCK, MOST_CASES};
 use crate::ranges;
 use crate::rule::Rule;
 use crate::text::{Spoil, Written};
-
-const MOST_CASES: u64 = 1_000_000;
 
 /// Where the answers to 'read', 'check' and 'tally' are not the same refusal.
 #[derive(PartialEq)]
@@ -59,8 +58,8 @@ pub fn of(written: &Written) -> Result<Answers, String> {
 fn spoiled(spoils: &[Spoil]) -> Result<Option<String>, String> {
     match spoils {
         [] => Ok(None),
-        [Spoil::Length(length)] if length % 512 != 0 => Ok(Some(refused(1, 0))),
-        [Spoil::Byte(byte, _)] => Ok(Some(refused(2, (byte / 512) as u64))),
+        [Spoil::Length(length)] if length % BLOCK != 0 => Ok(Some(refused(1, 0))),
+        [Spoil::Byte(byte, _)] => Ok(Some(refused(2, (byte / BLOCK) as u64))),
         [Spoil::Edition(edition)] if *edition != 1 => Ok(Some(refused(3, 0))),
         _ => Err("what comes of this spoiling is not known beforehand".to_string()),
     }

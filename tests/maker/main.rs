@@ -1,5 +1,5 @@
 // The maker: makes sheets from rules' texts, says what answers they must get, and has solvers judge scripts. It
-// shares no code with the library, the oracle or the tests' sheets.
+// shares no code with the library and the oracle, and with the tests' sheets no more than the layout.
 //
 //   maker sheet RULE SHEET               makes the sheet of a rule's text (see text.rs)
 //   maker answers ORACLE RULE..          the answers that the sheets must get, a line for each call; fails
@@ -11,6 +11,10 @@ mod answers;
 mod cases;
 mod edits;
 mod exams;
+#[path = "../layout.rs"]
+mod layout;
+#[path = "../limits.rs"]
+mod limits;
 mod oracle;
 mod ranges;
 mod rule;

@@ -1,13 +1,16 @@
 // Asks the oracle about sheets: it is run once, with a trial for each sheet (see oracle/main.rs).
 
 use crate::answers::{failing, refused, tallied, Answers};
+use crate::limits::MOST_VARIABLES;
 use crate::sheet;
 use crate::trials::{trial, CHECK, READ, TALLY};
 use std::io::Write;
 use std::process::{Command, Stdio};
 
-/// Three answers, and a room of sixteen numbers after the second.
-const BYTES: usize = 8 + (8 + 32) + 8;
+/// Three answers, and a room of numbers after the second.
+const ROOM: usize = 16;
+const AFTER_ROOM: usize = ROOM + 2 * MOST_VARIABLES;
+const BYTES: usize = AFTER_ROOM + 8;
 
 /// What the oracle says of each sheet.
 pub fn answers(oracle: &str, sheets: &[Vec<u8>]) -> Vec<Answers> {
@@ -29,9 +32,11 @@ fn in_words(sheet: &[u8], said: &[u8]) -> Answers {
         0 => words(),
         refusal => refused(refusal, low(answer)),
     };
-    let (check, tally) = (number(8), number(48));
-    let case: Vec<i64> =
-        said[16..48].chunks_exact(2).map(|two| i16::from_le_bytes([two[0], two[1]]).into()).collect();
+    let (check, tally) = (number(8), number(AFTER_ROOM));
+    let case: Vec<i64> = said[ROOM..AFTER_ROOM]
+        .chunks_exact(2)
+        .map(|two| i16::from_le_bytes([two[0], two[1]]).into())
+        .collect();
     Answers {
         read: unless_refused(number(0), &|| "accepted".to_string()),
         check: unless_refused(check, &|| match low(check) {

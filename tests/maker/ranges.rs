@@ -1,6 +1,7 @@
 // The range of each number of a goal, by the ends of its operands' ranges.
 
-use crate::rule::{Rule, Sort, Tree, HIGH, LOW};
+use crate::limits::{HIGH, LOW};
+use crate::rule::{Rule, Sort, Tree};
 
 /// The number of the first node whose range leaves 16 bits.
 pub fn first_leaving(rule: &Rule) -> Option<usize> {

@@ -1,8 +1,5 @@
 // What a rule says: its variables with their domains, and the goal's tree.
 
-pub const LOW: i64 = -32_768;
-pub const HIGH: i64 = 32_767;
-
 #[derive(Clone, Copy, PartialEq)]
 pub enum Sort {
     Truth,

@@ -8,11 +8,8 @@
 //
 // What a sheet can't hold is refused with the number of the line.
 
-use crate::rule::{Kind, Rule, Sort, Tree, Variable, CONSTANT, HIGH, LOW, VARIABLE, WORDS};
-
-const MOST_VARIABLES: usize = 16;
-const MOST_NODES: usize = 248;
-const LONGEST_NAME: usize = 16;
+use crate::limits::{HIGH, LONGEST_NAME, LOW, MOST_NODES, MOST_VARIABLES};
+use crate::rule::{Kind, Rule, Sort, Tree, Variable, CONSTANT, VARIABLE, WORDS};
 
 pub enum Spoil {
     Edition(u8),

@@ -1,13 +1,15 @@
 // Trials, as oracle/main.rs has them: a sheet and questions about it.
 
+use crate::limits::{ENOUGH_ROOM, MOST_VARIABLES};
+
 pub type Asked = (u8, u64);
 
 pub const READ: Asked = (1, 0);
-/// With room for sixteen numbers.
-pub const CHECK: Asked = (4, 16);
+/// With room for a number of each variable.
+pub const CHECK: Asked = (4, MOST_VARIABLES as u64);
 pub const TALLY: Asked = (5, 0);
 /// With room that is enough for every script.
-pub const SCRIPT: Asked = (6, 4_096);
+pub const SCRIPT: Asked = (6, ENOUGH_ROOM as u64);
 
 pub fn trial(sheet: &[u8], questions: &[Asked]) -> Vec<u8> {
     let mut trial = (sheet.len() as u32).to_le_bytes().to_vec();

@@ -2,6 +2,7 @@
 
 use crate::blocks;
 use crate::cases;
+use crate::limits::MOST_BYTES;
 use crate::reading::{self, refuse, Refusal, Rule};
 use crate::script;
 
@@ -113,7 +114,7 @@ impl Asked {
 
 /// What the program writes about an input when asked with this word.
 pub fn said(word: &str, input: &[u8]) -> String {
-    let sheet = &input[..input.len().min(4_609)];
+    let sheet = &input[..input.len().min(MOST_BYTES + 1)];
     answer_to(word, sheet)
         .unwrap_or_else(|Refusal { number, place }| format!("refused {} at {}\n", number, place))
 }

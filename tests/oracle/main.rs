@@ -1,5 +1,5 @@
 // The oracle: reads trials on standard input and writes the answers that document 01 demands.
-// Written from document 01 alone; it shares no code with the library or with the tests' sheets.
+// Written from document 01 alone; with the library and the tests' sheets it shares no code, only the limits' names.
 //
 //   oracle             answers the questions of each trial
 //   oracle program     writes what the program writes, with the same standard input
@@ -15,6 +15,8 @@
 mod answers;
 mod blocks;
 mod cases;
+#[path = "../limits.rs"]
+mod limits;
 mod reading;
 mod script;
 mod trees;

@@ -1,6 +1,7 @@
 // Reading a sheet: refusals 1 to 4, then the variables (5) and the goal's tree (6 to 8).
 
 use crate::blocks;
+use crate::limits::*;
 use crate::trees::{self, Tree};
 use crate::variables::{self, Variable};
 
@@ -37,18 +38,18 @@ pub fn variable_offset(variable: usize) -> usize {
 }
 
 fn node_offset(node: usize) -> usize {
-    512 * (1 + node / 31) + 16 * (node % 31)
+    BLOCK * (1 + node / NODES_IN_BLOCK) + 16 * (node % NODES_IN_BLOCK)
 }
 
 fn right_length(sheet: &[u8]) -> Result<(), Refusal> {
-    match sheet.len() {
-        512 | 1024 | 1536 | 2048 | 2560 | 3072 | 3584 | 4096 | 4608 => Ok(()),
-        _ => refuse(1, 0),
+    match (1..=MOST_BLOCKS).find(|blocks| blocks * BLOCK == sheet.len()) {
+        Some(_) => Ok(()),
+        None => refuse(1, 0),
     }
 }
 
 fn right_checks(sheet: &[u8]) -> Result<(), Refusal> {
-    match (0..sheet.len() / 512).find(|&k| blocks::content(sheet, k as u64).is_none()) {
+    match (0..sheet.len() / BLOCK).find(|&k| blocks::content(sheet, k as u64).is_none()) {
         Some(k) => refuse(2, k),
         None => Ok(()),
     }
@@ -66,9 +67,9 @@ fn right_edition(sheet: &[u8]) -> Result<(), Refusal> {
 fn right_counts(sheet: &[u8]) -> Result<(usize, usize), Refusal> {
     let node_count = usize::from(sheet[2]) + 256 * usize::from(sheet[3]);
     let variable_count = usize::from(sheet[4]);
-    let fits = (1..=248).contains(&node_count) && variable_count <= 16;
+    let fits = (1..=MOST_NODES).contains(&node_count) && variable_count <= MOST_VARIABLES;
     // The last node stands in the last block.
-    if fits && node_offset(node_count - 1) / 512 + 1 == sheet.len() / 512 {
+    if fits && node_offset(node_count - 1) / BLOCK + 1 == sheet.len() / BLOCK {
         Ok((node_count, variable_count))
     } else {
         refuse(4, 0)
@@ -83,7 +84,7 @@ fn zero_elsewhere(sheet: &[u8], node_count: usize, variable_count: usize) -> Res
     copy(0, 5);
     (0..variable_count).for_each(|variable| copy(variable_offset(variable), 24));
     (0..node_count).for_each(|node| copy(node_offset(node), 16));
-    (0..sheet.len() / 512).for_each(|k| copy(512 * k + 510, 2));
+    (0..sheet.len() / BLOCK).for_each(|k| copy(BLOCK * k + CONTENT, BLOCK - CONTENT));
     if bare == sheet {
         Ok(())
     } else {

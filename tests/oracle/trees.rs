@@ -2,6 +2,7 @@
 // no later node has taken yet stand in a row, and a node takes as many from the row's end as it has
 // operands; each tree of the row begins just after the one before it.
 
+use crate::limits::{HIGH, LOW};
 use crate::reading::{refuse, Refusal};
 use crate::variables::Variable;
 
@@ -151,5 +152,5 @@ fn span<const COUNT: usize>(values: [i64; COUNT]) -> Range {
 }
 
 fn fitting(range: Range) -> Option<Range> {
-    (range.least >= -32_768 && range.greatest <= 32_767).then_some(range)
+    (range.least >= LOW && range.greatest <= HIGH).then_some(range)
 }

@@ -1,5 +1,6 @@
 // Variable records: their domains and names (refusal 5).
 
+use crate::limits::LONGEST_NAME;
 use crate::reading::{refuse, variable_offset, Refusal};
 
 pub struct Variable {
@@ -27,7 +28,7 @@ fn variable(sheet: &[u8], offset: usize) -> Option<Variable> {
     let variable = Variable {
         least: i16::from_le_bytes([record[0], record[1]]).into(),
         greatest: i16::from_le_bytes([record[2], record[3]]).into(),
-        name: String::from_utf8(record[6..22].get(..record[4].into())?.to_vec()).ok()?,
+        name: String::from_utf8(record[6..6 + LONGEST_NAME].get(..record[4].into())?.to_vec()).ok()?,
         name_offset: offset + 6,
     };
     let right =

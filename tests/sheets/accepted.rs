@@ -1,7 +1,7 @@
 // Accepted sheets: every count at its edges, every kind, the ends of numbers and of names.
 
 use crate::grower::{accepted, any_accepted, any_size, Grower, Variable};
-use crate::layout::{MOST_NODES, MOST_VARIABLES, NODES_IN_BLOCK};
+use crate::limits::*;
 use crate::random::Random;
 use crate::trees::*;
 use crate::trial::{Accepted, Output};
@@ -38,7 +38,7 @@ fn counts(random: &mut Random, out: &mut Output) {
         out.put(random, &format!("accepted: V = {}", variables), &sheet, Accepted);
     }
     let largest = accepted(random, MOST_NODES, MOST_VARIABLES);
-    out.put(random, "accepted: N = 248 and V = 16", &largest, Accepted);
+    out.put(random, "accepted: N and V at their most", &largest, Accepted);
 }
 
 fn kinds(random: &mut Random, out: &mut Output) {
@@ -59,7 +59,7 @@ fn kinds(random: &mut Random, out: &mut Output) {
 }
 
 fn names(random: &mut Random, out: &mut Output) {
-    for length in [1, 16] {
+    for length in [1, LONGEST_NAME] {
         let mut grower = Grower::new(random, 0);
         for _ in 0..MOST_VARIABLES {
             let domain = (grower.value().min(0), 0);

@@ -2,6 +2,7 @@
 
 use crate::grower::{any_size, Grower};
 use crate::layout::*;
+use crate::limits::*;
 use crate::question::Question;
 use crate::random::Random;
 use crate::trees::*;
@@ -32,7 +33,7 @@ pub fn names(random: &mut Random, out: &mut Output) {
 fn ask_names(out: &mut Output, label: &str, sheet: &[u8], expected: Expected, lengths: &[usize]) {
     let near = 0..=MOST_VARIABLES as u16 + 1;
     let answer = |variable: u16| match lengths.get(usize::from(variable)) {
-        Some(&length) => (variable_at(variable.into()) + 6) as u64 * 65_536 + length as u64,
+        Some(&length) => (variable_at(variable.into()) + NAME) as u64 * 65_536 + length as u64,
         None => 0,
     };
     let mut questions = vec![(Question::Read, reading(expected))];
@@ -66,10 +67,11 @@ fn spoil(sheet: &mut Vec<u8>, number: u64) -> usize {
 
 /// Puts a leaf and a node over it first; what follows them matters no more.
 fn begin_with(sheet: &mut [u8], leaf: Tree, kind: u8) {
-    sheet[2] = sheet[2].max(2);
+    let nodes = node_count(sheet).max(2);
+    put(sheet, NODE_COUNT, nodes as u16);
     let table = Table::of(&misused(kind, vec![leaf]));
     for (number, record) in table.records.iter().enumerate() {
-        sheet[node_at(number)..][..16].copy_from_slice(record);
+        sheet[node_at(number)..][..NODE_BYTES].copy_from_slice(record);
     }
 }
 
@@ -88,7 +90,7 @@ enum Made {
 
 pub fn blocks(random: &mut Random, out: &mut Output) {
     for _ in 0..1_500 {
-        let count = random.below(14);
+        let count = random.below(MOST_BLOCKS + 5);
         let tail = if random.one_in(2) { 0 } else { random.below(BLOCK) };
         let mut bytes = random.bytes(BLOCK * count + tail);
         let made: Vec<Made> = (0..count).map(|k| make_block(random, &mut bytes, k)).collect();
@@ -129,7 +131,7 @@ fn bring_check_to(bytes: &mut [u8], k: usize, target: u16) {
 
 fn ask_blocks(out: &mut Output, label: &str, bytes: &[u8], made: &[Made]) {
     let answer = |k: u64| match made.get(k as usize) {
-        Some(Made::Right) => 510,
+        Some(Made::Right) => CONTENT as u64,
         _ => 0,
     };
     let near = 0..(made.len() + 3) as u64;
@@ -149,7 +151,8 @@ fn far_blocks(random: &mut Random, out: &mut Output) {
             *byte = random.byte();
         }
         let made = make_block(random, &mut bytes, k);
-        questions.push((Question::Block(k as u64), Some(if made == Made::Right { 510 } else { 0 })));
+        questions
+            .push((Question::Block(k as u64), Some(if made == Made::Right { CONTENT as u64 } else { 0 })));
     }
     questions.push((Question::Block(count as u64), Some(0)));
     out.ask("1: blocks about number 65,521", &bytes, &questions);

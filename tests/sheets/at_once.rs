@@ -2,6 +2,7 @@
 
 use crate::grower::Grower;
 use crate::layout::*;
+use crate::limits::*;
 use crate::nodes::mistyped;
 use crate::random::Random;
 use crate::trees::*;
@@ -74,7 +75,7 @@ fn goal_with_faults(grower: &mut Grower, faults: &[u64]) -> Tree {
     let mut goal = grower.truth(size);
     for &fault in faults {
         let tree = faulty(grower, fault).marked();
-        // Six faults of at most 37 nodes and the first 10 stay below 248.
+        // Six faults of at most 37 nodes and the first 10 stay below the most.
         let most = tree.size() + 2 + grower.random.below(10);
         let next = grower.around(tree, most);
         let kind = grower.random.pick(&[4, 5, 6, 7]);
@@ -150,11 +151,12 @@ fn spoil_length(random: &mut Random, sheet: &mut Vec<u8>) {
 }
 
 fn spoil_layout(random: &mut Random, sheet: &mut [u8]) {
+    let over = MOST_VARIABLES + 1;
     match random.below(4) {
-        0 => sheet[4] = 17 + random.below(239) as u8,
-        1 => sheet[3] = random.nonzero(),
+        0 => sheet[VARIABLE_COUNT] = (over + random.below(256 - over)) as u8,
+        1 => sheet[NODE_COUNT + 1] = random.other_byte(sheet[NODE_COUNT + 1]),
         2 => sheet[5 + random.below(3)] = random.nonzero(),
-        _ => sheet[BLOCK + 496 + random.below(14)] = random.nonzero(),
+        _ => sheet[BLOCK + AFTER_NODES + random.below(CONTENT - AFTER_NODES)] = random.nonzero(),
     }
 }
 

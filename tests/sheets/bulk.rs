@@ -2,6 +2,7 @@
 
 use crate::grower::{any_accepted, any_size, Grower};
 use crate::layout::*;
+use crate::limits::*;
 use crate::random::Random;
 use crate::trees::*;
 use crate::trial::{Open, Output, Refused};
@@ -9,9 +10,11 @@ use crate::whole_sheet::{accepted_with_block, lengthened};
 
 // ---- lengths
 
-/// Every length up to some bytes past 10 blocks, with wrong checks and with right ones.
+/// Every length up to some bytes past 10 blocks, and from there to a block too many those about each block's end,
+/// with wrong checks and with right ones.
 pub fn lengths(random: &mut Random, out: &mut Output) {
-    for length in 0..=5_200 {
+    let ends = (11..=MOST_BLOCKS + 1).map(|blocks| blocks * BLOCK);
+    for length in (0..=10 * BLOCK + 80).chain(ends.flat_map(|end| [end - 1, end, end + 1])) {
         let wrong = random.bytes(length);
         let right = lengthened(random, length);
         if length > 0 && length % BLOCK == 0 && length <= MOST_BYTES {
@@ -26,11 +29,11 @@ pub fn lengths(random: &mut Random, out: &mut Output) {
 
 // ---- one byte changed
 
-/// One changed byte of an accepted sheet gives refusal 2 at its block: each byte of a largest sheet in
-/// turn, then any byte of any sheet.
+/// One changed byte of an accepted sheet gives refusal 2 at its block: each byte of the first nine blocks of a
+/// largest sheet in turn, then any byte of any sheet.
 pub fn changed_bytes(random: &mut Random, out: &mut Output) {
     let largest = accepted_with_block(random, MOST_BLOCKS - 1);
-    for place in 0..largest.len() {
+    for place in 0..9 * BLOCK {
         changed(random, out, "2: each byte changed in turn", largest.clone(), place);
     }
     for _ in 0..6_000 {
@@ -49,7 +52,7 @@ fn changed(random: &mut Random, out: &mut Output, label: &str, mut sheet: Vec<u8
 
 pub fn at_random(random: &mut Random, out: &mut Output) {
     for _ in 0..600 {
-        let length = random.below(5_000);
+        let length = random.below(MOST_BYTES + BLOCK);
         let bytes = random.bytes(length);
         out.put(random, "any: bytes at random", &bytes, Open);
         let sheet = sealed_bytes(random);
@@ -74,7 +77,7 @@ fn sealed_bytes(random: &mut Random) -> Vec<u8> {
 
 fn header_then_bytes(random: &mut Random) -> Vec<u8> {
     let mut sheet = any_accepted(random);
-    let from = random.pick(&[2, 4, 5, 8, 392, BLOCK]);
+    let from = random.pick(&[NODE_COUNT, VARIABLE_COUNT, 5, variable_at(0), AFTER_VARIABLES, BLOCK]);
     for byte in &mut sheet[from..] {
         *byte = if random.one_in(2) { 0 } else { random.byte() };
     }
@@ -86,10 +89,10 @@ fn header_then_bytes(random: &mut Random) -> Vec<u8> {
 fn altered(random: &mut Random) -> Vec<u8> {
     let mut sheet = any_accepted(random);
     for _ in 0..1 + random.below(3) {
-        let nodes = usize::from(sheet[2]).clamp(1, MOST_NODES);
+        let nodes = node_count(&sheet).clamp(1, MOST_NODES);
         let place = match random.below(8) {
             0 => random.below(8),
-            1 => random.below(variable_at(usize::from(sheet[4]).min(MOST_VARIABLES))),
+            1 => random.below(variable_at(usize::from(sheet[VARIABLE_COUNT]).min(MOST_VARIABLES))),
             2 => random.below(sheet.len()),
             _ => (node_at(random.below(nodes)) + random.below(10)).min(sheet.len() - 1),
         };
@@ -127,12 +130,12 @@ fn add_node(grower: &mut Grower, table: &mut Table, row: &mut Vec<(u16, Sort)>, 
     }
     let operands: Vec<u16> = row.drain(first..).map(|tree| tree.0).collect();
     let mut record = match kind {
-        CONSTANT => record_with(kind, &[], grower.value() as i16 as u16),
-        VARIABLE => record_with(kind, &[grower.random.below(grower.variables.len() + 1) as u16], 0),
-        _ => record_with(kind, &operands, 0),
+        CONSTANT => node_record(kind, &[], grower.value() as i16 as u16),
+        VARIABLE => node_record(kind, &[grower.random.below(grower.variables.len() + 1) as u16], 0),
+        _ => node_record(kind, &operands, 0),
     };
     if grower.random.one_in(care) {
-        let place = grower.random.below(16);
+        let place = grower.random.below(NODE_BYTES);
         record[place] = record[place].wrapping_add(grower.random.pick(&[1, 255, 128]));
     }
     row.push((table.records.len() as u16, gives(kind)));

@@ -1,42 +1,45 @@
-// Sheets with a number of cases about 1,000,000 and far over (refusal 10), with rooms long and short.
+// Sheets with a number of cases about the most and far over (refusal 10), with rooms long and short.
 
 use crate::case_questions::{every_room, room, with_outcome, Outcome};
 use crate::few_cases::domain;
 use crate::grower::Grower;
-use crate::layout::MOST_VARIABLES;
+use crate::layout::VARIABLE_COUNT;
+use crate::limits::{MOST_CASES, MOST_VARIABLES};
 use crate::question::{Known, Question};
 use crate::random::Random;
 use crate::trees::*;
 use crate::trial::Output;
 
-const MOST_CASES: usize = 1_000_000;
 const WIDEST: usize = 65_536;
 
 pub fn make(random: &mut Random, out: &mut Output) {
-    gone_through(random, out, "accepted: 1,000,000 cases", &[1_000, 1_000]);
+    let share = |sizes: &[usize]| sizes.iter().map(|&size| size as f64).product::<f64>() / MOST_CASES as f64;
+    assert!(AT_MOST.iter().all(|sizes| (0.98..=1.0).contains(&share(sizes))), "these are the most cases");
+    assert!(OVER.iter().all(|sizes| share(sizes) > 1.0), "these are too many cases");
+    gone_through(random, out, "accepted: the most cases", AT_MOST[0]);
     let sizes = random.pick(&AT_MOST);
-    gone_through(random, out, "accepted: about 1,000,000 cases, no more", sizes);
+    gone_through(random, out, "accepted: about the most cases, no more", sizes);
     for sizes in AT_MOST {
-        begun(random, out, "accepted: about 1,000,000 cases, the first fails", sizes);
+        begun(random, out, "accepted: about the most cases, the first fails", sizes);
     }
     for _ in 0..300 {
         let sizes = just_under(random);
-        begun(random, out, "accepted: just under 1,000,000 cases, the first fails", &sizes);
+        begun(random, out, "accepted: just under the most cases, the first fails", &sizes);
         let sizes = just_over(random);
-        too_many(random, out, "just over 1,000,000 cases", &sizes);
+        too_many(random, out, "just over the most cases", &sizes);
         let sizes = wrapped(random);
         too_many(random, out, "a number of cases that wraps round in 32 bits", &sizes);
         let sizes = far_over(random);
-        too_many(random, out, "far more than 1,000,000 cases", &sizes);
+        too_many(random, out, "far more than the most cases", &sizes);
     }
     for sizes in OVER {
         for _ in 0..10 {
-            too_many(random, out, "over 1,000,000 cases", sizes);
+            too_many(random, out, "over the most cases", sizes);
         }
     }
 }
 
-/// Products of 1,000,000 and little less.
+/// Products of the most cases and little less.
 const AT_MOST: [&[usize]; 9] = [
     &[1_000, 1_000],
     &[10, 10, 10, 10, 10, 10],
@@ -74,12 +77,12 @@ fn mixed(random: &mut Random, mut sizes: Vec<usize>) -> Vec<usize> {
 
 fn just_under(random: &mut Random) -> Vec<usize> {
     let one = 16 + random.below(30_000);
-    mixed(random, vec![one, MOST_CASES / one])
+    mixed(random, vec![one, MOST_CASES as usize / one])
 }
 
 pub fn just_over(random: &mut Random) -> Vec<usize> {
     let one = 16 + random.below(30_000);
-    mixed(random, vec![one, MOST_CASES / one + 1])
+    mixed(random, vec![one, MOST_CASES as usize / one + 1])
 }
 
 /// A product just over 2^32.
@@ -128,7 +131,7 @@ fn gone_through(random: &mut Random, out: &mut Output, label: &str, sizes: &[usi
 
 /// One check and one tally, since each takes long.
 fn put_once(random: &mut Random, out: &mut Output, label: &str, sheet: &[u8], outcome: &Outcome) {
-    let variables = usize::from(sheet[4]);
+    let variables = usize::from(sheet[VARIABLE_COUNT]);
     let questions = vec![
         Question::Read,
         Question::Check(room(random, variables - 1)),

@@ -1,6 +1,7 @@
 // Questions that put a sheet to check and tally, with rooms of every length about V.
 
-use crate::layout::{variable_at, MOST_NODES, MOST_VARIABLES};
+use crate::layout::{node_count, number_at, variable_at, GREATEST, LEAST, VARIABLE_COUNT};
+use crate::limits::{BLOCK, MOST_CASES, MOST_NODES, MOST_VARIABLES};
 use crate::question::{Known, Question, Room};
 use crate::random::Random;
 use crate::trial::{reading, Asked, Expected, Refused};
@@ -66,7 +67,7 @@ pub fn any(random: &mut Random, sheet: &[u8], expected: Expected) -> Vec<Asked> 
         Refused(number, place) => Some(Known::refused(number, place)),
         _ => None,
     };
-    let variables = usize::from(sheet.get(4).copied().unwrap_or(0)).min(MOST_VARIABLES);
+    let variables = usize::from(sheet.get(VARIABLE_COUNT).copied().unwrap_or(0)).min(MOST_VARIABLES);
     let lengths = room_lengths(random, variables);
     let mut questions = vec![(Question::Read, reading(expected).map(Known::said))];
     if known.is_some() || affordable(sheet, variables) {
@@ -80,10 +81,12 @@ pub fn any(random: &mut Random, sheet: &[u8], expected: Expected) -> Vec<Asked> 
 
 /// Whether to go through all cases takes little time, or nothing since they are too many.
 fn affordable(sheet: &[u8], variables: usize) -> bool {
-    let number =
-        |at: usize| sheet.get(at..at + 2).map_or(0, |two| i16::from_le_bytes([two[0], two[1]]).into());
-    let size = |at: usize| (number(at + 2) - number(at) + 1i64).max(1) as f64;
+    if sheet.len() < BLOCK {
+        return true;
+    }
+    let number = |at: usize| i64::from(number_at(sheet, at) as i16);
+    let size = |at: usize| (number(at + GREATEST) - number(at + LEAST) + 1).max(1) as f64;
     let cases: f64 = (0..variables).map(|variable| size(variable_at(variable))).product();
-    let nodes = usize::from(sheet.get(2).copied().unwrap_or(1)).min(MOST_NODES) as f64;
-    cases > 1_000_000.0 || cases * nodes < 20_000.0
+    let nodes = node_count(sheet).min(MOST_NODES) as f64;
+    cases > MOST_CASES as f64 || cases * nodes < 20_000.0
 }

@@ -1,5 +1,6 @@
 // What a run over check and tally must have met, a list of its own as `required` is.
 
+use crate::limits::MOST_VARIABLES;
 use crate::required::{add, refusals, All, KINDS};
 
 pub fn of_cases(all: &mut All) {
@@ -22,23 +23,23 @@ fn labels(all: &mut All) {
         let where_it_fails = "is above its lowest|is at its highest|has one value";
         add(all, &format!("accepted: fails where {} ", variable), where_it_fails);
     }
-    for count in ["1,000,000 cases", "about 1,000,000 cases, no more"] {
+    for count in ["the most cases", "about the most cases, no more"] {
         add(all, &format!("accepted: {}, ", count), "all hold|the last fails");
     }
-    add(all, "accepted: about 1,000,000 cases, ", "the first fails");
-    add(all, "accepted: ", "just under 1,000,000 cases, the first fails|just over 1,000,000 cases");
-    add(all, "accepted: ", "over 1,000,000 cases|far more than 1,000,000 cases");
+    add(all, "accepted: about the most cases, ", "the first fails");
+    add(all, "accepted: ", "just under the most cases, the first fails|just over the most cases");
+    add(all, "accepted: ", "over the most cases|far more than the most cases");
     add(all, "accepted: ", "a number of cases that wraps round in 32 bits");
 }
 
 fn checks(all: &mut All) {
     refusals(all, "check");
     for verdict in ["holds", "fails"] {
-        all.extend((0..=16).map(|variables| format!("check: {}, V = {}", verdict, variables)));
+        all.extend((0..=MOST_VARIABLES).map(|variables| format!("check: {}, V = {}", verdict, variables)));
         add(all, &format!("check: {}, ", verdict), "room for V|room for V + 1|room for more");
     }
     add(all, "check: fails in ", "the only case|the first case|the last case|a case between");
-    all.extend((1..=16).map(|variables| format!("check: 9 at {}", variables)));
+    all.extend((1..=MOST_VARIABLES).map(|variables| format!("check: 9 at {}", variables)));
     add(all, "check: 9, ", "no room|less room than V|room for V - 1");
     add(
         all,
@@ -50,5 +51,5 @@ fn checks(all: &mut All) {
 fn tallies(all: &mut All) {
     refusals(all, "tally");
     add(all, "tally: ", "all held|all failed|some held, some failed|10 at 0");
-    add(all, "tally: ", "one case|some cases|1,000,000 cases");
+    add(all, "tally: ", "one case|some cases|the most cases");
 }

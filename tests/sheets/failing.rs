@@ -4,7 +4,7 @@
 use crate::case_questions::{every_room, with_outcome, Outcome};
 use crate::few_cases::{domain, domains};
 use crate::grower::Grower;
-use crate::layout::MOST_VARIABLES;
+use crate::limits::MOST_VARIABLES;
 use crate::random::Random;
 use crate::trees::*;
 use crate::trial::Output;

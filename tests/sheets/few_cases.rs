@@ -3,7 +3,7 @@
 
 use crate::case_questions::{every_room, with_outcome};
 use crate::grower::{any_size, Grower};
-use crate::layout::MOST_VARIABLES;
+use crate::limits::MOST_VARIABLES;
 use crate::random::Random;
 use crate::trees::*;
 use crate::trial::Output;

@@ -1,6 +1,7 @@
 // Variables and trees at random, right in every respect.
 
-use crate::layout::{lay_out, VariableRecord, MOST_NODES, MOST_VARIABLES};
+use crate::layout::{lay_out, variable_record, VariableRecord};
+use crate::limits::{LONGEST_NAME, MOST_NODES, MOST_VARIABLES};
 use crate::random::Random;
 use crate::trees::*;
 
@@ -14,12 +15,7 @@ pub struct Variable {
 
 impl Variable {
     pub fn record(&self) -> VariableRecord {
-        let mut record = [0; 24];
-        record[..2].copy_from_slice(&(self.domain.0 as i16).to_le_bytes());
-        record[2..4].copy_from_slice(&(self.domain.1 as i16).to_le_bytes());
-        record[4] = self.name.len() as u8;
-        record[6..6 + self.name.len()].copy_from_slice(&self.name);
-        record
+        variable_record(self.domain.0, self.domain.1, &self.name)
     }
 }
 
@@ -60,8 +56,8 @@ impl<'r> Grower<'r> {
     pub fn add_variable(&mut self, domain: Range) -> usize {
         let length = match self.random.below(4) {
             0 => 1,
-            1 => 16,
-            _ => 1 + self.random.below(16),
+            1 => LONGEST_NAME,
+            _ => 1 + self.random.below(LONGEST_NAME),
         };
         let name = self.name(length);
         self.variables.push(Variable { domain, name });
@@ -98,7 +94,7 @@ impl<'r> Grower<'r> {
     fn near_name(&mut self) -> Vec<u8> {
         let other = self.random.below(self.variables.len());
         let mut name = self.variables[other].name.clone();
-        if name.len() < 16 && self.random.one_in(2) {
+        if name.len() < LONGEST_NAME && self.random.one_in(2) {
             name.push(self.random.pick(LATER));
         } else {
             name[0] ^= 0x20;

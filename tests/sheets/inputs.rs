@@ -1,9 +1,9 @@
-// Inputs for the program: accepted sheets, each refusal, and lengths about the 4,609 bytes that it reads.
+// Inputs for the program: accepted sheets, each refusal, and lengths about those at which it stops reading.
 
 use crate::accepted;
 use crate::grower::{self, Grower};
 use crate::judge::next_trial;
-use crate::layout::{MOST_BYTES, MOST_NODES, MOST_VARIABLES};
+use crate::limits::*;
 use crate::random::Random;
 use crate::refused_sheets;
 use crate::scripts::longest;
@@ -40,11 +40,16 @@ pub fn write(seed: u64, folder: &str) -> io::Result<()> {
 fn of_each_length(random: &mut Random) -> Vec<(String, Vec<u8>)> {
     let full = grower::accepted(random, MOST_NODES, 5);
     let mut inputs = vec![("empty".to_string(), Vec::new()), ("full".to_string(), full.clone())];
-    for length in [1, 511, 512, 513, MOST_BYTES - 1, MOST_BYTES + 1, MOST_BYTES + 2, 5_120, 65_536, 200_000] {
+    let of_length = |length: usize| {
         let mut input = full.clone();
         input.resize(length, 0);
-        inputs.push((format!("length-{}", length), input));
-    }
+        input
+    };
+    let lengths =
+        [1, BLOCK - 1, BLOCK, BLOCK + 1, MOST_BYTES - 1, MOST_BYTES + 2, MOST_BYTES + BLOCK, 65_536];
+    inputs.extend(lengths.map(|length| (format!("length-{}", length), of_length(length))));
+    inputs.push(("one-too-long".to_string(), of_length(MOST_BYTES + 1)));
+    inputs.push(("far-too-long".to_string(), of_length(200_000)));
     let mut grower = Grower::new(random, MOST_VARIABLES);
     let goal = longest(&mut grower);
     inputs.push(("longest-script".to_string(), grower.sheet(&Table::of(&goal))));

@@ -8,6 +8,7 @@
 //   sheets met MET PART..                         fails if something that these parts require was never met
 //   sheets scripts TRIALS GOT FOLDER              writes the script of each trial to a file of its own
 //   sheets inputs SEED FOLDER                     writes inputs for the program, each to a file of its own
+//   sheets deepest FOLDER                         writes the sheets that take the most stack, the same way
 
 mod accepted;
 mod alter;
@@ -18,13 +19,17 @@ mod case_edges;
 mod case_limits;
 mod case_questions;
 mod case_required;
+mod deepest;
 mod edges;
 mod failing;
 mod few_cases;
 mod grower;
 mod inputs;
 mod judge;
+#[path = "../layout.rs"]
 mod layout;
+#[path = "../limits.rs"]
+mod limits;
 mod met;
 mod nodes;
 mod question;
@@ -116,6 +121,7 @@ fn main() -> io::Result<()> {
         ["alter", "room", trials, got, altered, seed] => alter(What::Room, [trials, got, altered], seed)?,
         ["met", met, ref parts @ ..] => all_met(&fs::read_to_string(met)?, parts),
         ["scripts", trials, got, folder] => scripts_to(&fs::read(trials)?, &fs::read(got)?, folder)?,
+        ["deepest", folder] => deepest::write(folder)?,
         ["inputs", seed, folder] => inputs::write(number(seed), folder)?,
         _ => fail("usage: sheets groups | make | judge | alter | met; see the top of main.rs"),
     }

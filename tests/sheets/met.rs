@@ -1,6 +1,7 @@
 // The kinds of answer that an answer is an instance of; `required` lists all that must be met.
 
 use crate::layout::*;
+use crate::limits::*;
 use crate::question::{Answer, Question};
 use crate::trees::KINDS;
 
@@ -23,7 +24,7 @@ fn kinds_of_reading(call: &str, sheet: &[u8], answer: &Answer) -> Vec<String> {
         0 => vec![format!("{}: accepted, {} blocks", call, sheet.len() / BLOCK)],
         1 if sheet.is_empty() => vec![format!("{}: 1 at {}, no bytes", call, place)],
         1 if sheet.len() % BLOCK != 0 => vec![format!("{}: 1 at {}, no multiple of 512", call, place)],
-        1 if sheet.len() > MOST_BYTES => vec![format!("{}: 1 at {}, over 4,608", call, place)],
+        1 if sheet.len() > MOST_BYTES => vec![format!("{}: 1 at {}, over the most", call, place)],
         2 => vec![format!("{}: 2 at block {}", call, place)],
         5 => vec![format!("{}: 5 at variable {}", call, place)],
         6..=8 => kinds_of_node(call, sheet, number, place),
@@ -32,7 +33,7 @@ fn kinds_of_reading(call: &str, sheet: &[u8], answer: &Answer) -> Vec<String> {
 }
 
 fn kinds_of_node(call: &str, sheet: &[u8], number: u64, node: usize) -> Vec<String> {
-    let last = usize::from(sheet[2]) - 1;
+    let last = node_count(sheet) - 1;
     let place = match node {
         0 if last == 0 => "the only node",
         0 => "node 0 of more",
@@ -63,13 +64,14 @@ fn kind_of_block(sheet: &[u8], k: u64, answer: u64) -> String {
         0 if from + BLOCK as u128 > length => "block: empty, partly inside".to_string(),
         0 => "block: empty, check wrong".to_string(),
         _ if k > 65_520 => "block: of a number over 65,520".to_string(),
-        _ if k > 9 => "block: of a number over 9".to_string(),
+        _ if k > MOST_BLOCKS as u64 => "block: of a number over the most".to_string(),
         _ => format!("block: {}", k),
     }
 }
 
 fn kinds_of_check(sheet: &[u8], answer: &Answer) -> Vec<String> {
-    let (variables, room) = (sheet.get(4).map_or(0, |&count| usize::from(count)), answer.room.len() / 2);
+    let (variables, room) =
+        (sheet.get(VARIABLE_COUNT).map_or(0, |&count| usize::from(count)), answer.room.len() / 2);
     let room = match room {
         _ if room == variables => "room for V",
         _ if room == variables + 1 => "room for V + 1",
@@ -94,7 +96,7 @@ fn kinds_of_check(sheet: &[u8], answer: &Answer) -> Vec<String> {
 fn which_case(sheet: &[u8], variables: usize, case: &[i64]) -> &'static str {
     let end = |at: usize| i64::from(i16::from_le_bytes([sheet[at], sheet[at + 1]]));
     let lowest = (0..variables).all(|variable| case[variable] == end(variable_at(variable)));
-    let highest = (0..variables).all(|variable| case[variable] == end(variable_at(variable) + 2));
+    let highest = (0..variables).all(|variable| case[variable] == end(variable_at(variable) + GREATEST));
     match (lowest, highest) {
         (true, true) => "the only case",
         (true, false) => "the first case",
@@ -114,7 +116,7 @@ fn kinds_of_tally(sheet: &[u8], answer: &Answer) -> Vec<String> {
     };
     let count = match held + failed {
         1 => "one case",
-        1_000_000 => "1,000,000 cases",
+        MOST_CASES => "the most cases",
         _ => "some cases",
     };
     vec![format!("tally: {}", counts), format!("tally: {}", count)]
@@ -130,11 +132,11 @@ fn kinds_of_script(sheet: &[u8], answer: &Answer) -> Vec<String> {
             let room = match room {
                 _ if room == length => "just room",
                 _ if room == length + 1 => "room for one byte more",
-                4_096 => "room for 4,096 bytes",
+                ENOUGH_ROOM => "room enough for all",
                 _ => "room for more",
             };
             vec![
-                format!("script: written, V = {}", sheet[4]),
+                format!("script: written, V = {}", sheet[VARIABLE_COUNT]),
                 format!("script: written, {} blocks", sheet.len() / BLOCK),
                 format!("script: written, {}", room),
             ]

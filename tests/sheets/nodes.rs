@@ -2,11 +2,12 @@
 
 use crate::grower::Grower;
 use crate::layout::*;
+use crate::limits::MOST_VARIABLES;
 use crate::random::Random;
 use crate::trees::*;
 use crate::trial::{Output, Refused};
 
-const FIELDS: [(&str, usize); 4] = [("a", 2), ("b", 4), ("c", 6), ("value", 8)];
+const NAMED: [(&str, usize); 4] = [("a", 2), ("b", 4), ("c", 6), ("value", 8)];
 const OPERANDS: [&str; 3] = ["a", "b", "c"];
 
 // ---- refusal 6
@@ -50,7 +51,7 @@ fn put_6(
 ) {
     let (mut sheet, node) = with_kind(random, kind);
     let at = node_at(node);
-    spoil(random, &mut sheet[at..at + 16]);
+    spoil(random, &mut sheet[at..at + NODE_BYTES]);
     seal(&mut sheet);
     out.put(random, label, &sheet, Refused(6, node));
 }
@@ -73,7 +74,7 @@ fn uses(kind: u8, field: &str) -> bool {
 }
 
 fn unused_fields(random: &mut Random, out: &mut Output, kind: u8) {
-    for (field, at) in FIELDS.iter().filter(|(field, _)| !uses(kind, field)) {
+    for (field, at) in NAMED.iter().filter(|(field, _)| !uses(kind, field)) {
         for (which, byte) in [("low", *at), ("high", at + 1)] {
             let label = format!("6: unused {} of kind {}, {} byte", field, kind, which);
             put_6(random, out, &label, kind, |random, record| record[byte] = random.nonzero());
@@ -99,14 +100,14 @@ fn misplaced_operands(random: &mut Random, out: &mut Output, kind: u8) {
         let ways = [("one too low", 65_535), ("one too high", 1), ("256 off", 256), ("elsewhere", elsewhere)];
         for (way, off) in ways {
             let label = format!("6: operand {} of kind {} {}", name, kind, way);
-            put_6(random, out, &label, kind, |_, record| shift_field(record, 2 + 2 * position, off));
+            put_6(random, out, &label, kind, |_, record| shift_field(record, FIELDS + 2 * position, off));
         }
     }
 }
 
 fn shift_field(record: &mut [u8], at: usize, off: u16) {
-    let right = u16::from_le_bytes([record[at], record[at + 1]]);
-    record[at..at + 2].copy_from_slice(&right.wrapping_add(off).to_le_bytes());
+    let right = number_at(record, at);
+    put(record, at, right.wrapping_add(off));
 }
 
 /// The order has no node for an operand where the table does not begin early enough.
@@ -126,9 +127,9 @@ fn missing_operands(random: &mut Random, out: &mut Output, kind: u8) {
             let made_up = grower.random.pick(&[0, node as u16, (node as u16).wrapping_sub(1), 65_535, 7]);
             numbers.insert(0, made_up);
         }
-        table.records.push(record_with(kind, &numbers, 0));
+        table.records.push(node_record(kind, &numbers, 0));
         for _ in 0..grower.random.below(5) {
-            table.records.push(record_with(1, &[], 0));
+            table.records.push(node_record(1, &[], 0));
         }
         let sheet = grower.sheet(&table);
         let label = format!("6: operand {} of kind {} missing", name, kind);
@@ -137,18 +138,18 @@ fn missing_operands(random: &mut Random, out: &mut Output, kind: u8) {
 }
 
 fn wrong_variables(random: &mut Random, out: &mut Output) {
-    let labels = ["V", "V + 1", "16", "65,535", "256 more than a right one"];
+    let labels = ["V", "V + 1", "the most", "65,535", "256 more than a right one"];
     for label in labels {
         let (mut sheet, node) = with_kind(random, VARIABLE);
-        let count = u16::from(sheet[4]);
+        let count = u16::from(sheet[VARIABLE_COUNT]);
         let number = match label {
             "V" => count,
             "V + 1" => count + 1,
-            "16" => 16,
+            "the most" => MOST_VARIABLES as u16,
             "65,535" => 65_535,
             _ => 256 + random.below(count.into()) as u16,
         };
-        sheet[node_at(node) + 2..][..2].copy_from_slice(&number.to_le_bytes());
+        put(&mut sheet, node_at(node) + FIELDS, number);
         seal(&mut sheet);
         out.put(random, &format!("6: variable {}", label), &sheet, Refused(6, node));
     }

@@ -1,7 +1,7 @@
 // Ranges that leave -32,768..32,767 (refusal 8), by one and by far, and ranges that just do not.
 
 use crate::grower::{any_size, Grower};
-use crate::layout::MOST_VARIABLES;
+use crate::limits::MOST_VARIABLES;
 use crate::random::Random;
 use crate::trees::*;
 use crate::trial::{Accepted, Output, Refused};

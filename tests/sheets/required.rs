@@ -2,6 +2,7 @@
 // own, apart from the code that makes the sheets: a class that is left out there is missed here.
 
 use crate::case_required;
+use crate::limits::*;
 use crate::script_required;
 use crate::trial::Part;
 use std::collections::BTreeSet;
@@ -31,7 +32,7 @@ fn of_reading(all: &mut All) {
     at_once(all);
     bulk(all);
     edges(all);
-    all.extend((2..=9).map(|blocks| format!("read: accepted, {} blocks", blocks)));
+    all.extend((2..=MOST_BLOCKS).map(|blocks| format!("read: accepted, {} blocks", blocks)));
     refusals(all, "read");
     names_and_blocks(all);
 }
@@ -43,24 +44,28 @@ pub fn add(all: &mut All, prefix: &str, words: &str) {
 }
 
 fn accepted(all: &mut All) {
-    for nodes in [1, 2, 3, 30, 31, 32, 61, 62, 63, 92, 93, 94, 123, 124, 125, 154, 155, 156, 185, 186, 187] {
-        all.push(format!("accepted: N = {}", nodes));
-    }
-    add(all, "accepted: N = ", "216|217|218|247|248|248 and V = 16");
-    all.extend((0..=16).map(|variables| format!("accepted: V = {}", variables)));
+    let near_full =
+        |nodes: &usize| [0, 1, NODES_IN_BLOCK - 1].contains(&(nodes % NODES_IN_BLOCK)) || *nodes <= 3;
+    all.extend((1..=MOST_NODES).filter(near_full).map(|nodes| format!("accepted: N = {}", nodes)));
+    add(all, "accepted: ", "N and V at their most");
+    all.extend((0..=MOST_VARIABLES).map(|variables| format!("accepted: V = {}", variables)));
     all.extend(KINDS.iter().map(|kind| format!("accepted: a node of kind {}", kind)));
     all.extend((1..=10).map(|kind| format!("accepted: goal of kind {}", kind)));
-    add(all, "accepted: names of length ", "1|16");
+    all.extend([1, LONGEST_NAME].map(|length| format!("accepted: names of length {}", length)));
     add(all, "accepted: constant ", "-32768|-1|0|32767");
     add(all, "accepted: domain ", "-32768..32767|-32768..-32768|32767..32767|-1..0");
     add(all, "accepted: ", "any|every name asked");
 }
 
 fn whole_sheet(all: &mut All) {
-    add(all, "1: ", "no bytes|less than a block|no multiple of 512|a multiple of 512 over 4,608");
-    add(all, "1: ", "no multiple of 512 over 4,608|every length, bytes at random|every length, checks right");
+    add(all, "1: ", "no bytes|less than a block|no multiple of 512|a multiple of 512 over the most");
+    add(
+        all,
+        "1: ",
+        "no multiple of 512 over the most|every length, bytes at random|every length, checks right",
+    );
     add(all, "1: ", "blocks about number 65,521");
-    for k in 0..9 {
+    for k in 0..MOST_BLOCKS {
         add(
             all,
             "2: ",
@@ -70,20 +75,20 @@ fn whole_sheet(all: &mut All) {
         all.push(format!("2: check of block {0} begun at {1}", k, k + 2));
         all.push(format!("accepted: check of block {} at most 14", k));
     }
-    for k in 1..9 {
+    for k in 1..MOST_BLOCKS {
         all.push(format!("2: check of block {} begun at 1", k));
         all.push(format!("2: check of block {0} begun at {0}", k));
         all.push(format!("2: block {} and a later one", k - 1));
     }
     add(all, "2: ", "each byte changed in turn|any byte changed");
     add(all, "3: edition ", "0|2|256|257|65535|any");
-    add(all, "4: N = ", "0, one block|0, some nodes|249|256|65,535|any over 248");
-    add(all, "4: V = ", "17|255|any over 16");
+    add(all, "4: N = ", "0, one block|0, some nodes|one over the most|over the most, first byte 0|65,535");
+    add(all, "4: ", "N = any over the most|V = one over the most|V = 255|V = any over the most");
     add(all, "4: ", "second byte of N|one block too short|one block too long|length any other");
     add(all, "4: ", "a full last block, N one more|one node in the last block, N one less");
     add(all, "4: ", "byte 5|byte 6|byte 7");
-    let node_tails = (1..9).map(|k| format!("bytes 496..509 of block {}", k));
-    let zones = ["variable slots from V on", "bytes 392..509 of block 0", "node slots from N on"];
+    let node_tails = (1..MOST_BLOCKS).map(|k| format!("bytes behind the nodes of block {}", k));
+    let zones = ["variable slots from V on", "bytes behind the variables", "node slots from N on"];
     for zone in zones.iter().map(|zone| zone.to_string()).chain(node_tails) {
         add(all, &format!("4: {}, ", zone), "first byte|last byte|any byte");
     }
@@ -92,11 +97,8 @@ fn whole_sheet(all: &mut All) {
 
 fn variables(all: &mut All) {
     add(all, "5: ", "min = max + 1|min over max|min = 0 and max = -1|min = 32,767 and max = -32,768");
-    add(
-        all,
-        "5: ",
-        "length 0|length 0 and no name|length 17|length 17 and a letter after the name|length over 16",
-    );
+    add(all, "5: ", "length 0|length 0 and no name|length one over the most|length any over the most");
+    add(all, "5: ", "length one over the most and a letter after the name");
     add(all, "5: ", "byte 5 of the record|byte 22 of the record|byte 23 of the record");
     add(all, "5: ", "first byte past the length|last byte past the length|any byte past the length");
     add(all, "5: ", "equal names|three equal names|a faulty record and a later equal name");
@@ -136,7 +138,7 @@ fn nodes(all: &mut All) {
             }
         }
     }
-    add(all, "6: variable ", "V|V + 1|16|65,535|256 more than a right one|0 of none");
+    add(all, "6: variable ", "V|V + 1|the most|65,535|256 more than a right one|0 of none");
     add(all, "6: goal subtree not the whole table, goal ", "a truth value|an integer");
 }
 
@@ -189,7 +191,7 @@ fn at_once(all: &mut All) {
     for first in [6, 7, 8] {
         all.extend([6, 7, 8].map(|second| format!("{}: before fault {} at a later node", first, second)));
         add(all, &format!("{}: and the goal is ", first), "not the whole table|an integer");
-        add(all, &format!("{}: in block ", first), "1|2|3|4|5|6|7|8");
+        all.extend((1..MOST_BLOCKS).map(|k| format!("{}: in block {}", first, k)));
     }
     add(all, "6: and fault ", "7 at the same node|8 at the same node");
     add(all, "", "7: at a goal that is not the whole table|8: at a goal that is not the whole table");
@@ -222,16 +224,16 @@ fn edges(all: &mut All) {
 
 /// Refusals 1 to 8 at each kind of place, as a call has them.
 pub fn refusals(all: &mut All, call: &str) {
-    add(all, &format!("{}: 1 at 0, ", call), "no bytes|no multiple of 512|over 4,608");
-    all.extend((0..9).map(|k| format!("{}: 2 at block {}", call, k)));
+    add(all, &format!("{}: 1 at 0, ", call), "no bytes|no multiple of 512|over the most");
+    all.extend((0..MOST_BLOCKS).map(|k| format!("{}: 2 at block {}", call, k)));
     add(all, &format!("{}: ", call), "3 at 0|4 at 0");
-    all.extend((0..16).map(|variable| format!("{}: 5 at variable {}", call, variable)));
+    all.extend((0..MOST_VARIABLES).map(|variable| format!("{}: 5 at variable {}", call, variable)));
     // No range leaves, and no operand is wrong, at a node that has nothing before it.
     add(all, &format!("{}: 6 at ", call), "the only node|node 0 of more|a node between|N - 1|no kind");
     add(all, &format!("{}: 7 at ", call), "the only node|a node between|N - 1");
     add(all, &format!("{}: 8 at ", call), "a node between|N - 1");
     for number in [6, 7, 8] {
-        all.extend((1..=8).map(|k| format!("{}: {} in block {}", call, number, k)));
+        all.extend((1..MOST_BLOCKS).map(|k| format!("{}: {} in block {}", call, number, k)));
     }
     all.extend(KINDS.iter().map(|kind| format!("{}: 6 at kind {}", call, kind)));
     all.extend(KINDS[2..].iter().map(|kind| format!("{}: 7 at kind {}", call, kind)));
@@ -239,11 +241,11 @@ pub fn refusals(all: &mut All, call: &str) {
 }
 
 fn names_and_blocks(all: &mut All) {
-    all.extend((0..16).map(|variable| format!("name: of variable {}", variable)));
-    all.extend((1..=16).map(|length| format!("name: of length {}", length)));
+    all.extend((0..MOST_VARIABLES).map(|variable| format!("name: of variable {}", variable)));
+    all.extend((1..=LONGEST_NAME).map(|length| format!("name: of length {}", length)));
     all.extend((1..=8).map(|number| format!("name: empty, refusal {}", number)));
     add(all, "name: empty, ", "not below V");
-    all.extend((0..=9).map(|k| format!("block: {}", k)));
-    add(all, "block: ", "of a number over 9|of a number over 65,520");
+    all.extend((0..=MOST_BLOCKS).map(|k| format!("block: {}", k)));
+    add(all, "block: ", "of a number over the most|of a number over 65,520");
     add(all, "block: empty, ", "past the lent bytes|partly inside|check wrong");
 }

@@ -1,13 +1,11 @@
 // Questions that put a sheet to the script's writer, with rooms of every length about the script's own.
 
 use crate::case_questions::room;
+use crate::limits::ENOUGH_ROOM;
 use crate::question::{Known, Question};
 use crate::random::Random;
 use crate::trees::*;
 use crate::trial::{reading, Asked, Expected, Refused};
-
-/// A room that is enough for every script.
-pub const ENOUGH: usize = 4_096;
 
 /// The bytes of the script with this goal and so many variables.
 pub fn script_length(goal: &Tree, variables: usize) -> usize {
@@ -44,10 +42,10 @@ fn text_length(tree: &Tree) -> usize {
     own.len() + tree.operands.iter().map(text_length).sum::<usize>()
 }
 
-/// The reading, and the script with no room, less, one byte too little, just enough, one byte more, and 4,096.
+/// The reading, and the script with no room, less, one byte too little, just enough, one byte more, and enough for all.
 pub fn every_room(random: &mut Random, length: usize) -> Vec<Asked> {
     let less = random.below(length);
-    let lengths = [0, less, length - 1, length, length + 1, ENOUGH];
+    let lengths = [0, less, length - 1, length, length + 1, ENOUGH_ROOM];
     let known = |room: usize| (room < length).then(|| Known::refused(9, length));
     let scripts = lengths.iter().map(|&bytes| (Question::Script(room(random, bytes)), known(bytes)));
     [(Question::Read, Some(Known::said(0)))].into_iter().chain(scripts).collect()
@@ -65,6 +63,6 @@ pub fn any(random: &mut Random, expected: Expected) -> Vec<Asked> {
         (Question::Read, reading(expected).map(Known::said)),
         (Question::Script(room(random, length)), known.clone()),
         // Not often, since a long room takes long to compare.
-        (Question::Script(room(random, if length % 16 == 0 { ENOUGH } else { 200 })), known),
+        (Question::Script(room(random, if length % 16 == 0 { ENOUGH_ROOM } else { 200 })), known),
     ]
 }

@@ -1,5 +1,6 @@
 // What a run over the script must have met, a list of its own as `required` is.
 
+use crate::limits::{MOST_BLOCKS, MOST_VARIABLES};
 use crate::met::LONGEST;
 use crate::required::{add, refusals, All, KINDS};
 
@@ -11,9 +12,9 @@ pub fn of_script(all: &mut All) {
     add(all, "accepted: script, ", "too many cases to check");
     add(all, "accepted: script for solvers, ", "any|holds|about zero|a variable not read");
     refusals(all, "script");
-    all.extend((0..=16).map(|variables| format!("script: written, V = {}", variables)));
-    all.extend((2..=9).map(|blocks| format!("script: written, {} blocks", blocks)));
-    add(all, "script: written, ", "just room|room for one byte more|room for 4,096 bytes|room for more");
+    all.extend((0..=MOST_VARIABLES).map(|variables| format!("script: written, V = {}", variables)));
+    all.extend((2..=MOST_BLOCKS).map(|blocks| format!("script: written, {} blocks", blocks)));
+    add(all, "script: written, ", "just room|room for one byte more|room enough for all|room for more");
     add(all, "script: 9, ", "no room|less room|one byte short");
     all.push(LONGEST.to_string());
 }

@@ -3,7 +3,7 @@
 
 use crate::case_limits;
 use crate::grower::{any_size, Grower};
-use crate::layout::{MOST_NODES, MOST_VARIABLES};
+use crate::limits::{MOST_NODES, MOST_VARIABLES};
 use crate::random::Random;
 use crate::script_questions::{every_room, script_length};
 use crate::trees::*;
@@ -107,7 +107,7 @@ pub fn longest(grower: &mut Grower) -> Tree {
 
 // ---- many cases
 
-/// More than 1,000,000 cases are no hindrance to a script.
+/// More cases than can be checked are no hindrance to a script.
 pub fn many_cases(random: &mut Random, out: &mut Output) {
     for _ in 0..500 {
         for sizes in

@@ -2,9 +2,10 @@
 
 use crate::few_cases::{domains, telling};
 use crate::grower::Grower;
+use crate::limits::ENOUGH_ROOM;
 use crate::question::Question;
 use crate::random::Random;
-use crate::script_questions::{every_room, script_length, ENOUGH};
+use crate::script_questions::{every_room, script_length};
 use crate::trees::*;
 use crate::trial::{Asked, Output};
 
@@ -58,7 +59,7 @@ fn put(random: &mut Random, out: &mut Output, domains: &[Range], label: &str, go
     let sheet = Grower::with_domains(random, domains).sheet(&Table::of(goal));
     let questions = every_room(random, script_length(goal, domains.len()));
     let enough = |asked: &Asked| match asked.0 {
-        Question::Script(room) => room.length == ENOUGH,
+        Question::Script(room) => room.length == ENOUGH_ROOM,
         _ => true,
     };
     let questions: Vec<Asked> = questions.into_iter().filter(enough).collect();

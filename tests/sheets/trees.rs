@@ -1,6 +1,7 @@
 // Trees of nodes with their ranges, and their records in the order that document 01 asks for.
 
-use crate::layout::NodeRecord;
+use crate::layout::{node_record, NodeRecord};
+pub use crate::limits::{HIGH, LOW};
 
 pub const KINDS: [u8; 17] = [1, 2, 3, 4, 5, 6, 7, 8, 9, 10, 16, 17, 18, 19, 20, 21, 22];
 pub const CONSTANT: u8 = 16;
@@ -10,8 +11,6 @@ pub const SUM: u8 = 19;
 pub const DIFFERENCE: u8 = 20;
 pub const PRODUCT: u8 = 21;
 pub const CHOICE: u8 = 22;
-pub const LOW: i64 = -32_768;
-pub const HIGH: i64 = 32_767;
 
 #[derive(Clone, Copy, PartialEq)]
 pub enum Sort {
@@ -150,16 +149,5 @@ fn record(tree: &Tree, operands: &[u16]) -> NodeRecord {
         VARIABLE => (0, vec![tree.leaf]),
         _ => (0, operands.to_vec()),
     };
-    record_with(tree.kind, &fields, value)
-}
-
-/// A record with these first fields of a, b, c.
-pub fn record_with(kind: u8, fields: &[u16], value: u16) -> NodeRecord {
-    let mut record = [0; 16];
-    record[0] = kind;
-    for (i, field) in fields.iter().enumerate() {
-        record[2 + 2 * i..][..2].copy_from_slice(&field.to_le_bytes());
-    }
-    record[8..10].copy_from_slice(&value.to_le_bytes());
-    record
+    node_record(tree.kind, &fields, value)
 }

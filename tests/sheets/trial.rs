@@ -1,7 +1,8 @@
 // A trial: a sheet, the questions about it, and what is known beforehand of the answers.
 
 use crate::case_questions;
-use crate::layout::BLOCK;
+use crate::layout::VARIABLE_COUNT;
+use crate::limits::{BLOCK, MOST_VARIABLES};
 use crate::question::{Known, Question};
 use crate::random::Random;
 use crate::script_questions;
@@ -122,8 +123,8 @@ impl Output {
 }
 
 fn reading_questions(random: &mut Random, sheet: &[u8], expected: Expected) -> Vec<Asked> {
-    let variables = sheet.get(4).copied().unwrap_or(0).min(17);
-    let near = random.below(usize::from(variables) + 1) as u16;
+    let variables = usize::from(sheet.get(VARIABLE_COUNT).copied().unwrap_or(0)).min(MOST_VARIABLES + 1);
+    let near = random.below(variables + 1) as u16;
     let far = random.pick(&FAR_VARIABLES);
     let block = random.below(sheet.len() / BLOCK + 2) as u64;
     let distant = random.pick(&FAR_BLOCKS);

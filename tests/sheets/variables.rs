@@ -2,13 +2,12 @@
 
 use crate::grower::{accepted, any_size};
 use crate::layout::*;
+use crate::limits::*;
 use crate::random::Random;
 use crate::trial::{Accepted, Output, Refused};
 
-/// Offsets within a variable record.
-const LENGTH: usize = 4;
-const ZERO: usize = 5;
-const NAME: usize = 6;
+/// The offsets of a variable record's bytes that are always zero.
+const ZERO: [usize; 3] = [5, 22, 23];
 
 pub fn make(random: &mut Random, out: &mut Output) {
     for _ in 0..2 {
@@ -28,7 +27,7 @@ pub fn make(random: &mut Random, out: &mut Output) {
 fn spoilt(random: &mut Random, variable: usize, spoil: impl FnOnce(&mut Random, &mut [u8])) -> Vec<u8> {
     let mut sheet = with_variable(random, variable);
     let at = variable_at(variable);
-    spoil(random, &mut sheet[at..at + 24]);
+    spoil(random, &mut sheet[at..at + VARIABLE_BYTES]);
     seal(&mut sheet);
     sheet
 }
@@ -41,8 +40,8 @@ fn with_variable(random: &mut Random, variable: usize) -> Vec<u8> {
 }
 
 fn set_domain(record: &mut [u8], min: i64, max: i64) {
-    record[..2].copy_from_slice(&(min as i16).to_le_bytes());
-    record[2..4].copy_from_slice(&(max as i16).to_le_bytes());
+    put(record, LEAST, min as u16);
+    put(record, GREATEST, max as u16);
 }
 
 fn set_name(record: &mut [u8], name: &[u8]) {
@@ -72,30 +71,32 @@ fn lengths(random: &mut Random, out: &mut Output, variable: usize) {
     out.put(random, "5: length 0", &sheet, Refused(5, variable));
     let sheet = spoilt(random, variable, |_, record| set_name(record, b""));
     out.put(random, "5: length 0 and no name", &sheet, Refused(5, variable));
+    let over = LONGEST_NAME + 1;
     let sheet = spoilt(random, variable, |_, record| {
-        set_name(record, b"abcdefghijklmnop");
-        record[LENGTH] = 17;
+        set_name(record, &[b'a'; LONGEST_NAME]);
+        record[LENGTH] = over as u8;
     });
-    out.put(random, "5: length 17", &sheet, Refused(5, variable));
+    out.put(random, "5: length one over the most", &sheet, Refused(5, variable));
     let sheet = spoilt(random, variable, |_, record| {
-        // Whoever takes 17 bytes for the name finds a letter in each.
-        set_name(record, b"abcdefghijklmnop");
-        record[LENGTH] = 17;
-        record[NAME + 16] = b'q';
+        // Whoever takes that many bytes for the name finds a letter in each.
+        set_name(record, &[b'a'; LONGEST_NAME]);
+        record[LENGTH] = over as u8;
+        record[NAME + LONGEST_NAME] = b'q';
     });
-    out.put(random, "5: length 17 and a letter after the name", &sheet, Refused(5, variable));
-    let sheet = spoilt(random, variable, |random, record| record[LENGTH] = 17 + random.below(239) as u8);
-    out.put(random, "5: length over 16", &sheet, Refused(5, variable));
+    out.put(random, "5: length one over the most and a letter after the name", &sheet, Refused(5, variable));
+    let any = over + random.below(256 - over);
+    let sheet = spoilt(random, variable, |_, record| record[LENGTH] = any as u8);
+    out.put(random, "5: length any over the most", &sheet, Refused(5, variable));
 }
 
 fn zero_bytes(random: &mut Random, out: &mut Output, variable: usize) {
-    for byte in [ZERO, 22, 23] {
+    for byte in ZERO {
         let sheet = spoilt(random, variable, |random, record| record[byte] = random.nonzero());
         out.put(random, &format!("5: byte {} of the record", byte), &sheet, Refused(5, variable));
     }
-    let length = 1 + random.below(15);
-    let any = length + random.below(16 - length);
-    for (label, place) in [("first", length), ("last", 15), ("any", any)] {
+    let length = 1 + random.below(LONGEST_NAME - 1);
+    let any = length + random.below(LONGEST_NAME - length);
+    for (label, place) in [("first", length), ("last", LONGEST_NAME - 1), ("any", any)] {
         let sheet = spoilt(random, variable, |random, record| {
             set_name(record, &b"Qabcdefghijklmno"[..length]);
             // A letter half of the time: right in a name, but not past its length.
@@ -112,8 +113,8 @@ fn equal_names(random: &mut Random, out: &mut Output, variable: usize) {
     }
     let earlier = random.below(variable);
     let copy_name = |sheet: &mut [u8], from: usize, to: usize| {
-        let name = sheet[variable_at(from) + LENGTH..variable_at(from) + 24].to_vec();
-        sheet[variable_at(to) + LENGTH..variable_at(to) + 24].copy_from_slice(&name);
+        let name = sheet[variable_at(from) + LENGTH..variable_at(from) + VARIABLE_BYTES].to_vec();
+        sheet[variable_at(to) + LENGTH..variable_at(to) + VARIABLE_BYTES].copy_from_slice(&name);
     };
     let mut sheet = with_variable(random, variable);
     copy_name(&mut sheet, earlier, variable);
@@ -130,7 +131,7 @@ fn equal_names(random: &mut Random, out: &mut Output, variable: usize) {
 
     let mut sheet = with_variable(random, variable);
     copy_name(&mut sheet, earlier, variable);
-    sheet[variable_at(earlier) + 23] = random.nonzero();
+    sheet[variable_at(earlier) + ZERO[2]] = random.nonzero();
     seal(&mut sheet);
     out.put(random, "5: a faulty record and a later equal name", &sheet, Refused(5, earlier));
 }
@@ -146,9 +147,9 @@ fn is_later(byte: u8) -> bool {
 /// Each byte as the first and as a later character of a name.
 fn characters(random: &mut Random, out: &mut Output) {
     for byte in 0..=255u8 {
-        let length = 1 + random.below(16);
+        let length = 1 + random.below(LONGEST_NAME);
         character(random, out, "first", length, 0, byte, is_letter(byte));
-        let length = 2 + random.below(15);
+        let length = 2 + random.below(LONGEST_NAME - 1);
         let place = 1 + random.below(length - 1);
         character(random, out, "later", length, place, byte, is_later(byte));
     }
@@ -166,7 +167,7 @@ fn character(
     // A right character is tried in the only variable, whose name no other can have.
     let (variable, variables) = if right { (0, 1) } else { (random.below(4), 4) };
     let mut sheet = accepted(random, 3, variables);
-    let record = &mut sheet[variable_at(variable)..][..24];
+    let record = &mut sheet[variable_at(variable)..][..VARIABLE_BYTES];
     set_name(record, &b"Zyxwvutsrqponmlk"[..length]);
     record[NAME + place] = byte;
     seal(&mut sheet);

@@ -2,6 +2,7 @@
 
 use crate::grower::{accepted, any_accepted, any_size, Grower};
 use crate::layout::*;
+use crate::limits::*;
 use crate::random::Random;
 use crate::trees::{constant, node, Table, CONSTANT};
 use crate::trial::{Accepted, Output, Refused};
@@ -17,13 +18,13 @@ pub fn refusal_1(random: &mut Random, out: &mut Output) {
         out.put(random, "1: no multiple of 512", &part[..cut], Refused(1, 0));
         let blocks = MOST_BLOCKS + 1 + random.below(12);
         let long = lengthened(random, blocks * BLOCK);
-        out.put(random, "1: a multiple of 512 over 4,608", &long, Refused(1, 0));
+        out.put(random, "1: a multiple of 512 over the most", &long, Refused(1, 0));
         let longer = MOST_BYTES + 1 + random.below(BLOCK - 1);
         let long = lengthened(random, longer);
-        out.put(random, "1: no multiple of 512 over 4,608", &long, Refused(1, 0));
+        out.put(random, "1: no multiple of 512 over the most", &long, Refused(1, 0));
     }
     let huge = lengthened(random, 1 << 20);
-    out.put(random, "1: a multiple of 512 over 4,608", &huge, Refused(1, 0));
+    out.put(random, "1: a multiple of 512 over the most", &huge, Refused(1, 0));
 }
 
 /// An accepted sheet with zero bytes after it, all checks right.
@@ -108,8 +109,8 @@ fn equal_modulo(random: &mut Random, out: &mut Output, k: usize) {
 /// An accepted sheet whose block k has a check of at most 14, so that 65,521 more still fits 16 bits.
 fn with_low_check(random: &mut Random, k: usize) -> Vec<u8> {
     let mut sheet = sheet_of_constants(random);
-    let free = if k == 0 { variable_at(MOST_VARIABLES - 1) + 2 } else { last_constant(&sheet, k) };
-    let other = if k == 0 { variable_at(MOST_VARIABLES - 2) + 2 } else { free - 16 };
+    let free = if k == 0 { variable_at(MOST_VARIABLES - 1) + GREATEST } else { last_constant(&sheet, k) };
+    let other = if k == 0 { variable_at(MOST_VARIABLES - 2) + GREATEST } else { free - NODE_BYTES };
     loop {
         // Any value does in a constant, and as max where min is -32,768.
         sheet[free] = random.byte();
@@ -122,25 +123,25 @@ fn with_low_check(random: &mut Random, k: usize) -> Vec<u8> {
     }
 }
 
-/// 247 nodes: comparisons of two constants, joined; and 16 variables from -32,768 on.
+/// As many comparisons of two constants, joined, as there is room for; and all variables, from the lowest on.
 fn sheet_of_constants(random: &mut Random) -> Vec<u8> {
     let mut grower = Grower::new(random, 0);
     for _ in 0..MOST_VARIABLES {
         let greatest = grower.value();
-        grower.add_variable((-32_768, greatest));
+        grower.add_variable((LOW, greatest));
     }
     let compared = |grower: &mut Grower| node(8, vec![constant(grower.value()), constant(grower.value())]);
     let first = compared(&mut grower);
-    let goal = (0..61).fold(first, |goal, _| node(4, vec![goal, compared(&mut grower)]));
+    let goal = (1..(MOST_NODES + 1) / 4).fold(first, |goal, _| node(4, vec![goal, compared(&mut grower)]));
     grower.sheet(&Table::of(&goal))
 }
 
 /// Where the value stands of the last constant of block k that comes right after another: late in the
 /// block, since a byte's weight must be large to bring the check anywhere.
 fn last_constant(sheet: &[u8], k: usize) -> usize {
-    let kind = |slot: usize| sheet[BLOCK * k + 16 * slot];
+    let kind = |slot: usize| sheet[BLOCK * k + NODE_BYTES * slot];
     let slot = (1..NODES_IN_BLOCK).rev().find(|&slot| kind(slot - 1) == CONSTANT && kind(slot) == CONSTANT);
-    BLOCK * k + 16 * slot.expect("each block has two constants side by side") + 8
+    BLOCK * k + NODE_BYTES * slot.expect("each block has two constants side by side") + VALUE
 }
 
 // ---- refusal 3
@@ -157,7 +158,7 @@ pub fn refusal_3(random: &mut Random, out: &mut Output) {
 
 fn edition_spoilt(random: &mut Random, out: &mut Output, label: &str, edition: u16) {
     let mut sheet = any_accepted(random);
-    sheet[..2].copy_from_slice(&edition.to_le_bytes());
+    put(&mut sheet, 0, edition);
     seal(&mut sheet);
     out.put(random, label, &sheet, Refused(3, 0));
 }
@@ -181,26 +182,33 @@ fn put_4(random: &mut Random, out: &mut Output, label: &str, mut sheet: Vec<u8>)
 fn counts_spoilt(random: &mut Random, out: &mut Output) {
     let mut header = any_accepted(random);
     header.truncate(BLOCK);
-    header[2..4].copy_from_slice(&[0, 0]);
+    put(&mut header, NODE_COUNT, 0);
     put_4(random, out, "4: N = 0, one block", header);
 
-    let any = 249 + random.below(65_536 - 249);
-    for (label, count) in
-        [("0, some nodes", 0), ("249", 249), ("256", 256), ("65,535", 65_535), ("any over 248", any)]
-    {
+    let over = MOST_NODES + 1;
+    for (label, count) in [
+        ("0, some nodes", 0),
+        ("one over the most", over),
+        // Whoever takes its first byte alone finds 0.
+        ("over the most, first byte 0", 256 * (over / 256 + 1)),
+        ("65,535", 65_535),
+        ("any over the most", over + random.below(65_536 - over)),
+    ] {
         let mut sheet = if random.one_in(2) { accepted(random, MOST_NODES, 1) } else { any_accepted(random) };
-        sheet[2..4].copy_from_slice(&(count as u16).to_le_bytes());
+        put(&mut sheet, NODE_COUNT, count as u16);
         put_4(random, out, &format!("4: N = {}", label), sheet);
     }
+    // The length is then that of many nodes fewer or more.
     let mut sheet = any_accepted(random);
-    sheet[3] = random.nonzero();
+    sheet[NODE_COUNT + 1] = random.other_byte(sheet[NODE_COUNT + 1]);
     put_4(random, out, "4: second byte of N", sheet);
 
-    let any = 17 + random.below(239) as u8;
-    for (label, count) in [("17", 17), ("255", 255), ("any over 16", any)] {
+    let over = MOST_VARIABLES + 1;
+    let any = over + random.below(256 - over);
+    for (label, count) in [("one over the most", over), ("255", 255), ("any over the most", any)] {
         let mut sheet =
             if random.one_in(2) { accepted(random, 5, MOST_VARIABLES) } else { any_accepted(random) };
-        sheet[4] = count;
+        sheet[VARIABLE_COUNT] = count as u8;
         put_4(random, out, &format!("4: V = {}", label), sheet);
     }
 }
@@ -224,12 +232,12 @@ fn length_spoilt(random: &mut Random, out: &mut Output) {
     }
 
     // Just where a block more begins to be needed, the count of the other side.
-    let full = NODES_IN_BLOCK * (1 + random.below(7));
+    let full = NODES_IN_BLOCK * (1 + random.below(MOST_BLOCKS - 2));
     let mut sheet = accepted(random, full, 2);
-    sheet[2] += 1;
+    put(&mut sheet, NODE_COUNT, full as u16 + 1);
     put_4(random, out, "4: a full last block, N one more", sheet);
     let mut sheet = accepted(random, full + 1, 2);
-    sheet[2] -= 1;
+    put(&mut sheet, NODE_COUNT, full as u16);
     put_4(random, out, "4: one node in the last block, N one less", sheet);
 }
 
@@ -260,17 +268,17 @@ fn header_zeros_spoilt(random: &mut Random, out: &mut Output) {
         variable_at(MOST_VARIABLES),
     );
     let sheet = any_accepted(random);
-    zone_spoilt(random, out, "bytes 392..509 of block 0", &sheet, 392, CONTENT);
+    zone_spoilt(random, out, "bytes behind the variables", &sheet, AFTER_VARIABLES, CONTENT);
 }
 
 fn node_zeros_spoilt(random: &mut Random, out: &mut Output) {
-    let nodes = NODES_IN_BLOCK * random.below(8) + 1 + random.below(NODES_IN_BLOCK - 1);
+    let nodes = NODES_IN_BLOCK * random.below(MOST_BLOCKS - 1) + 1 + random.below(NODES_IN_BLOCK - 1);
     let sheet = accepted(random, nodes, 3);
-    let slots_end = sheet.len() - BLOCK + 16 * NODES_IN_BLOCK;
+    let slots_end = sheet.len() - BLOCK + AFTER_NODES;
     zone_spoilt(random, out, "node slots from N on", &sheet, node_at(nodes), slots_end);
     for k in 1..MOST_BLOCKS {
         let sheet = accepted_with_block(random, k);
-        let zone = format!("bytes 496..509 of block {}", k);
-        zone_spoilt(random, out, &zone, &sheet, BLOCK * k + 496, BLOCK * k + CONTENT);
+        let zone = format!("bytes behind the nodes of block {}", k);
+        zone_spoilt(random, out, &zone, &sheet, BLOCK * k + AFTER_NODES, BLOCK * k + CONTENT);
     }
 }

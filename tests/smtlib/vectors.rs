@@ -1,5 +1,5 @@
 //! Closed terms and scripts with the verdicts that z3 and cvc5 give, written as data for crates/smtlib/proofs.
-//! Usage: vectors SCRIPTS OUT-FOLDER. It fails where the two solvers, or they and the list of scripts, disagree.
+//! Usage: vectors SCRIPTS OUT-FOLDER. It fails where a solver says of a term or a script something else than the list does.
 
 use std::fmt::Write as _;
 use std::io::Write as _;
@@ -17,7 +17,8 @@ fn main() {
     let cases = read_cases(&args[1]);
     let judged: Vec<Judged> = cases.iter().map(judge).collect();
     write(&args[2], "ScriptData.antt", &script_data(&cases, &judged));
-    println!("{} terms and {} scripts: z3 and cvc5 agree", terms.len(), cases.len());
+    write(&args[2], "DecisionData.antt", &decision_data(&cases, &judged));
+    println!("{} terms and {} scripts: z3 and cvc5 answer as the list says", terms.len(), cases.len());
 }
 
 fn fail(message: &str) -> ! {
@@ -34,9 +35,14 @@ fn write(folder: &str, name: &str, text: &str) {
 
 // ---- the solvers
 
-const SOLVERS: [(&str, &[&str]); 2] = [("z3", &["-in"]), ("cvc5", &["--incremental", "--lang", "smt2"])];
+const SOLVERS: [(&str, &[&str]); 2] = [("z3", &["-in"]), ("cvc5", &["--incremental", "--lang", "smt2", "--strict-parsing"])];
 
-/// The answers to check-sat, in order; none where the solver reports an error.
+/// How the solvers are called.
+fn calls() -> String {
+    SOLVERS.map(|s| format!("{} {}", s.0, s.1.join(" "))).join("; ")
+}
+
+/// The answers to check-sat, in order; none where the solver reports an error or leaves one unanswered.
 fn ask(solver: &(&str, &[&str]), script: &[u8]) -> Option<Vec<bool>> {
     let child = Command::new(solver.0)
         .args(solver.1)
@@ -61,17 +67,21 @@ fn ask(solver: &(&str, &[&str]), script: &[u8]) -> Option<Vec<bool>> {
             _ => return None,
         }
     }
-    if out.status.success() { Some(answers) } else { None }
+    let asked = words(script).iter().filter(|w| w.1 == "check-sat").count();
+    if out.status.success() && answers.len() == asked { Some(answers) } else { None }
 }
 
-/// What both solvers answer.
-fn both(script: &[u8]) -> Option<Vec<bool>> {
-    let first = ask(&SOLVERS[0], script);
-    let second = ask(&SOLVERS[1], script);
-    if first != second {
-        fail(&format!("z3 says {first:?} and cvc5 {second:?} of\n{}", String::from_utf8_lossy(script)));
+/// What the solvers that accept the script answer; the others must refuse it.
+fn answers_of(accepts: [bool; 2], script: &[u8]) -> Vec<bool> {
+    let mut said = None;
+    for (solver, accepts) in SOLVERS.iter().zip(accepts) {
+        let answers = ask(solver, script);
+        if answers.is_some() != accepts || (accepts && said.is_some() && said != answers) {
+            fail(&format!("{} says {answers:?} of\n{}", solver.0, String::from_utf8_lossy(script)));
+        }
+        said = said.or(answers);
     }
-    first
+    said.unwrap_or_default()
 }
 
 // ---- closed terms
@@ -98,6 +108,8 @@ impl Random {
 
 const UNARY: [&str; 2] = ["bvnot", "bvneg"];
 const BINARY: [&str; 5] = ["bvand", "bvor", "bvadd", "bvmul", "bvsub"];
+/// These take two or more arguments, from the left.
+const FROM_LEFT: [&str; 4] = ["bvand", "bvor", "bvadd", "bvmul"];
 const ORDER: [&str; 8] = ["bvult", "bvule", "bvugt", "bvuge", "bvslt", "bvsle", "bvsgt", "bvsge"];
 const CORE: [&str; 6] = ["and", "or", "xor", "=>", "=", "distinct"];
 
@@ -118,6 +130,10 @@ fn binary(name: &str, w: u32, x: u32, y: u32) -> u32 {
         _ => x.wrapping_sub(y),
     };
     r & mask(w)
+}
+
+fn from_left(name: &str, w: u32, v: &[u32]) -> u32 {
+    v[1..].iter().fold(v[0], |x, y| binary(name, w, x, *y))
 }
 
 fn order(name: &str, w: u32, x: u32, y: u32) -> bool {
@@ -171,6 +187,13 @@ fn vector(r: &mut Random, w: u32, depth: u32) -> (String, u32) {
             let (a, x) = vector(r, w, depth - 1);
             let (b, y) = vector(r, w, depth - 1);
             (format!("(ite {c} {a} {b})"), if z { x } else { y })
+        }
+        3 => {
+            let f = *r.pick(&FROM_LEFT);
+            let parts: Vec<(String, u32)> = (0..3 + r.below(2)).map(|_| vector(r, w, depth - 1)).collect();
+            let texts: Vec<&str> = parts.iter().map(|p| p.0.as_str()).collect();
+            let n: Vec<u32> = parts.iter().map(|p| p.1).collect();
+            (format!("({f} {})", texts.join(" ")), from_left(f, w, &n))
         }
         _ => {
             let f = *r.pick(&BINARY);
@@ -226,7 +249,7 @@ fn truth(r: &mut Random, depth: u32) -> (String, bool) {
     }
 }
 
-/// All of width 2 (unary: 3), all triples of truth values, and then random terms.
+/// All of width 2 (unary: 3, three arguments: 1), all triples of truth values, and then random terms.
 fn terms() -> Vec<Term> {
     let mut out = Vec::new();
     for x in 0..4 {
@@ -247,6 +270,11 @@ fn terms() -> Vec<Term> {
     }
     for k in 0..8 {
         let v = [k & 4 != 0, k & 2 != 0, k & 1 != 0];
+        let n = v.map(u32::from);
+        for f in FROM_LEFT {
+            let texts = n.map(|x| literal(false, 1, x));
+            out.push((format!("({f} {})", texts.join(" ")), Value::Bits(1, from_left(f, 1, &n))));
+        }
         let texts: Vec<String> = v.iter().map(|b| truth_text(*b)).collect();
         for f in CORE {
             out.push((format!("({f} {})", texts.join(" ")), Value::Truth(core(f, &v))));
@@ -283,10 +311,7 @@ fn judge_terms(terms: &[Term]) {
         let _ = write!(script, "(push 1)(assert (= {t} {e}))(check-sat)(pop 1)\n(push 1)(assert (not (= {t} {e})))(check-sat)(pop 1)\n");
     }
     script.push_str("(exit)\n");
-    let answers = both(script.as_bytes()).unwrap_or_else(|| fail("the solvers refuse a closed term"));
-    if answers.len() != 2 * terms.len() {
-        fail("the solvers left out a closed term");
-    }
+    let answers = answers_of([true, true], script.as_bytes());
     for (i, (t, _)) in terms.iter().enumerate() {
         if !answers[2 * i] || answers[2 * i + 1] {
             fail(&format!("the solvers give another value to {t}"));
@@ -296,13 +321,34 @@ fn judge_terms(terms: &[Term]) {
 
 // ---- scripts
 
+/// The kinds of verdicts: the heading in the list of scripts, which solvers accept these scripts, and whether they are read in crates/smtlib.
+struct Section {
+    heading: &'static str,
+    accepts: [bool; 2],
+    read: bool,
+}
+
+const ACCEPTED: usize = 0;
+const REFUSED: usize = 1;
+const SECTIONS: [Section; 8] = [
+    Section { heading: "[accepted]", accepts: [true, true], read: true },
+    Section { heading: "[refused]", accepts: [false, false], read: false },
+    Section { heading: "[z3 alone]", accepts: [true, false], read: false },
+    Section { heading: "[cvc5 alone]", accepts: [false, true], read: false },
+    Section { heading: "[against the standard]", accepts: [true, true], read: false },
+    Section { heading: "[not read]", accepts: [true, true], read: false },
+    Section { heading: "[z3 alone, read]", accepts: [true, false], read: true },
+    Section { heading: "[cvc5 alone, read]", accepts: [false, true], read: true },
+];
+
 struct Case {
     script: Vec<u8>,
-    refused: bool,
+    section: usize,
     at: Vec<Vec<u32>>,
 }
 
 enum Judged {
+    /// no script here
     Refused,
     /// all the settings that satisfy it
     All(Vec<Vec<u32>>),
@@ -339,18 +385,16 @@ fn unescape(line: &str) -> Vec<u8> {
 fn read_cases(path: &str) -> Vec<Case> {
     let text = std::fs::read_to_string(path).unwrap_or_else(|_| fail(&format!("cannot read {path}")));
     let mut cases: Vec<Case> = Vec::new();
-    let mut refused = false;
+    let mut section = 0;
     for line in text.lines() {
         if line.is_empty() || line.starts_with('#') {
-        } else if line == "[accepted]" {
-            refused = false;
-        } else if line == "[refused]" {
-            refused = true;
+        } else if let Some(k) = SECTIONS.iter().position(|s| s.heading == line) {
+            section = k;
         } else if let Some(numbers) = line.strip_prefix("at ") {
             let setting = numbers.split(' ').map(|n| n.parse().unwrap()).collect();
             cases.last_mut().unwrap().at.push(setting);
         } else {
-            cases.push(Case { script: unescape(line), refused, at: Vec::new() });
+            cases.push(Case { script: unescape(line), section, at: Vec::new() });
         }
     }
     cases
@@ -368,7 +412,7 @@ fn words(s: &[u8]) -> Vec<(usize, String)> {
                 continue;
             }
             b';' => {
-                while i < s.len() && s[i] != b'\n' {
+                while i < s.len() && s[i] != b'\n' && s[i] != b'\r' {
                     i += 1;
                 }
                 continue;
@@ -376,10 +420,10 @@ fn words(s: &[u8]) -> Vec<(usize, String)> {
             b'(' | b')' => i += 1,
             b'|' => {
                 i += 1;
-                while s[i] != b'|' {
+                while i < s.len() && s[i] != b'|' {
                     i += 1;
                 }
-                i += 1;
+                i = s.len().min(i + 1);
             }
             _ => {
                 while i < s.len() && !b" \t\r\n;()|".contains(&s[i]) {
@@ -437,10 +481,11 @@ fn all_settings(symbols: &[(String, u32)]) -> Vec<Vec<u32>> {
 
 fn judge(case: &Case) -> Judged {
     let shown = String::from_utf8_lossy(&case.script).to_string();
-    let answers = match answered(case, &shown) {
-        Some(answers) => answers,
-        None => return Judged::Refused,
-    };
+    let section = &SECTIONS[case.section];
+    let answers = answers_of(section.accepts, &case.script);
+    if !section.read {
+        return Judged::Refused;
+    }
     let (symbols, ask_at) = declared(&case.script);
     let settings = if case.at.is_empty() { all_settings(&symbols) } else { case.at.clone() };
     if case.at.is_empty() && settings.len() > 64 {
@@ -454,7 +499,7 @@ fn judge(case: &Case) -> Judged {
         script.extend(pinned(&symbols, s));
     }
     script.extend(b"(exit)\n");
-    let pins = both(&script).unwrap_or_else(|| fail(&format!("the solvers refuse a setting of\n{shown}")));
+    let pins = answers_of(section.accepts, &script);
     let pins = &pins[pins.len() - settings.len()..];
     if case.at.is_empty() {
         let met: Vec<Vec<u32>> = settings.iter().zip(pins).filter(|p| *p.1).map(|p| p.0.clone()).collect();
@@ -468,23 +513,6 @@ fn judge(case: &Case) -> Judged {
         }
         Judged::Some(settings.iter().cloned().zip(pins.iter().copied()).collect())
     }
-}
-
-/// The answers to an accepted script; none where the script is to be refused, which both solvers do.
-fn answered(case: &Case, shown: &str) -> Option<Vec<bool>> {
-    if !case.refused {
-        let answer = both(&case.script);
-        if answer.is_none() {
-            fail(&format!("both solvers refuse\n{shown}"));
-        }
-        return answer;
-    }
-    for solver in &SOLVERS {
-        if ask(solver, &case.script).is_some() {
-            fail(&format!("{} accepts\n{shown}", solver.0));
-        }
-    }
-    None
 }
 
 // ---- the data
@@ -536,54 +564,98 @@ fn term_data(terms: &[Term]) -> String {
         })
         .collect();
     format!(
-        "-- Closed terms with the values that z3 and cvc5 give them. Written by tests/smtlib/vectors.rs.
+        "-- Closed terms with the values that z3 and cvc5 give them ({}). Written by tests/smtlib/vectors.rs.
 use Prim.Native.String.{{String}}
 use mathlib.Core.Bool.{{true, false}}
 use mathlib.Core.List.{{List, [], _∷_}}
 use Rattle.smtlib.specs.Values.{{Value, truth, bits}}
 
 {}",
+        calls(),
         listed("terms", "String × Value", &rows)
     )
 }
 
-fn script_data(cases: &[Case], judged: &[Judged]) -> String {
-    let (mut refused, mut all, mut some) = (Vec::new(), Vec::new(), Vec::new());
-    for (case, verdict) in cases.iter().zip(judged) {
+fn one_setting(s: &[u32]) -> String {
+    format!("({}) ∷ ", numbers(s))
+}
+
+fn one_trial((s, met): &(Vec<u32>, bool)) -> String {
+    format!("({}, {met}) ∷ ", numbers(s))
+}
+
+/// The rows of a section: of scripts that are no script here, that have all their settings, or some.
+fn rows(cases: &[Case], judged: &[Judged], section: usize) -> [Vec<String>; 3] {
+    let mut out = [Vec::new(), Vec::new(), Vec::new()];
+    for (case, verdict) in cases.iter().zip(judged).filter(|c| c.0.section == section) {
         let text = quoted(&case.script);
         match verdict {
-            Judged::Refused => refused.push(text),
-            Judged::All(met) => {
-                let mut list = String::new();
-                for s in met {
-                    let _ = write!(list, "({}) ∷ ", numbers(s));
-                }
-                all.push(format!("({text}, {list}[])"));
-            }
-            Judged::Some(tried) => {
-                let mut list = String::new();
-                for (s, b) in tried {
-                    let _ = write!(list, "({}, {b}) ∷ ", numbers(s));
-                }
-                some.push(format!("({text}, {list}[])"));
-            }
+            Judged::Refused => out[0].push(text),
+            Judged::All(met) => out[1].push(format!("({text}, {}[])", met.iter().map(|s| one_setting(s)).collect::<String>())),
+            Judged::Some(tried) => out[2].push(format!("({text}, {}[])", tried.iter().map(one_trial).collect::<String>())),
         }
     }
+    out
+}
+
+/// A data file's first lines.
+fn opening(about: &str) -> String {
     format!(
-        "-- Scripts with the verdicts of z3 and cvc5. Written by tests/smtlib/vectors.rs from tests/smtlib/scripts.txt.
+        "-- {about} ({}). Written by tests/smtlib/vectors.rs from tests/smtlib/scripts.txt.
 use Prim.Native.Nat.{{ℕ}}
 use Prim.Native.String.{{String}}
 use mathlib.Core.Bool.{{Bool, true, false}}
 use mathlib.Core.List.{{List, [], _∷_}}
+",
+        calls()
+    )
+}
 
+const SETTINGS: &str = "String × List (List ℕ)";
+
+fn script_data(cases: &[Case], judged: &[Judged]) -> String {
+    let [_, all, some] = rows(cases, judged, ACCEPTED);
+    let [refused, _, _] = rows(cases, judged, REFUSED);
+    format!(
+        "{}
 -- accepted, with every setting that satisfies them, the first symbol's number slowest
 {}
 -- accepted, with some settings and whether they satisfy them
 {}
 -- refused
 {}",
-        listed("satisfied", "String × List (List ℕ)", &all),
+        opening("Scripts of which z3 and cvc5 say the same"),
+        listed("satisfied", SETTINGS, &all),
         listed("tried", "String × List (List ℕ × Bool)", &some),
         listed("refused", "String", &refused)
+    )
+}
+
+fn decision_data(cases: &[Case], judged: &[Judged]) -> String {
+    let list = |name: &str, section: usize| {
+        let [refused, all, _] = rows(cases, judged, section);
+        if SECTIONS[section].read { listed(name, SETTINGS, &all) } else { listed(name, "String", &refused) }
+    };
+    format!(
+        "{}
+-- z3 accepts these, and cvc5 refuses them
+{}
+-- cvc5 accepts these, and z3 refuses them
+{}
+-- both accept these, and SMT-LIB doesn't
+{}
+-- both accept these, as SMT-LIB does
+{}
+-- z3 accepts these, as SMT-LIB does, and cvc5 refuses them; with every setting that z3 finds to satisfy them
+{}
+-- cvc5 accepts these, as SMT-LIB does, and z3 refuses them or leaves a question unanswered; with every setting that cvc5 finds to satisfy them
+{}",
+        opening("Scripts of which z3, cvc5, SMT-LIB and the reading of crates/smtlib don't say the same"),
+        list("byZ3", 2),
+        list("byCvc5", 3),
+        list("againstStandard", 4),
+        list("notRead", 5),
+        list("readWithZ3", 6),
+        list("readWithCvc5", 7)
     )
 }

@@ -2,13 +2,16 @@
 -- most 12), whose rule holds in all 60; and to these sheets with other names. So each premise is seen to be met. Assumes nothing.
 use Prim.Native.Nat.{ℕ, _+_, _/_, _≤_, _<_}
 use mathlib.Core.Path.{_≡_, refl, sym, ap, _∙_}
+use mathlib.Core.Logic.{inl, ⊎-elim}
 use mathlib.Core.Bool.{Bool, true}
 use mathlib.Core.List.{List, [], _∷_, _++_}
 use mathlib.Core.Option.{Option, none, some}
 use native.Mathlib.Omega.{arith}
+use denote.Ref.{RefT}
 use lib.Dec.{lit≤}
 use lib.IntN.{ℤ, pos, negsuc}
 use lib.ListN.{length, set, take, drop}
+use Rattle.lists.specs.Ascii.{ascii}
 use Rattle.lists.specs.Places.{allBelow}
 use Rattle.lists.specs.Course.{below, course}
 use Rattle.lists.specs.First.{first}
@@ -20,7 +23,6 @@ use Rattle.meaning.specs.Rule.{Case}
 use Rattle.meaning.specs.Cases.{sizeOf, casesOf, holds, AllHold, failures, firstFailure, held, failed}
 use Rattle.meaning.proofs.Failures.{first-fails}
 use Rattle.kinds.specs.Kinds.{find, kindOf}
-use Rattle.kinds.specs.Rows.{by-rows}
 use Rattle.layout.specs.Limits.{blockBytes}
 use Rattle.layout.specs.Checks.{weighted, checkOf, blockRight}
 use Rattle.layout.specs.Starts.{startAt}
@@ -28,38 +30,45 @@ use Rattle.layout.specs.Goal.{treeAt}
 use Rattle.layout.specs.Parts.{nodeCount, variableCount, ruleIn}
 use Rattle.layout.specs.Sheet.{sheetOf}
 use Rattle.layout.specs.Fold.{ofTree, ofNode}
+use Rattle.layout.proofs.Agree.{domain-nameless}
 use Rattle.layout.proofs.Example.{areBytes, bytes-by}
 use Rattle.refusals.specs.declared.Refusal.{Refusal}
 use Rattle.refusals.specs.declared.Reading.the-variants.{Accepted as accepted}
+use Rattle.refusals.specs.Rows.{Answered}
+use Rattle.blocks.specs.Block.{BlockPart}
 use Rattle.blocks.specs.Early.{lengthRight, early}
 use Rattle.header.specs.Header.{zeros, countsRight, tailClear, outsideClear, header}
-use Rattle.records.specs.Variables.{isLetter, isNameByte, allNameBytes, nameRight, sameBytes, variableRight, fresh}
+use Rattle.lists.specs.Names.{sameBytes}
+use Rattle.records.specs.Variables.{isLetter, isNameByte, allNameBytes, nameRight, variableRight, fresh}
 use Rattle.findings.specs.declared.Finding.the-variants.{Integer}
 use Rattle.findings.specs.Findings.{findingOf}
 use Rattle.order.specs.Order.{placed}
 use Rattle.nodes.specs.Nodes.{typed, nodeRefusal, nodes, findingAt}
-use Rattle.reading.specs.Rows.{Answer}
+use Rattle.reading.specs.Rows.{sheetRows}
 use Rattle.reading.specs.Cascade.{refusalOf}
 use Rattle.reading.specs.Lawful.{Allowed}
-use Rattle.reading.proofs.Exact.{refused-exactly, accepted-exactly}
+use Rattle.reading.specs.Name.{NamePart}
+use Rattle.reading.proofs.Exact.{sheet-exactly}
 use Rattle.reading.proofs.Ranges.{nodeValue, in-range, in-16-bits}
 use Rattle.odometer.specs.Limit.{mostCases, caseCount}
 use Rattle.cases.specs.declared.Checked.the-variants.{Holds, Fails}
 use Rattle.cases.specs.Checks.{Checks}
 use Rattle.cases.specs.Tallies.{Tallies}
-use Rattle.smtlib.specs.Satisfaction.{Satisfies}
+use Rattle.smtlib.specs.Values.{bitVec}
+use Rattle.smtlib.specs.Commands.{Declaration}
+use Rattle.smtlib.specs.Satisfaction.{declared, Satisfies}
 use Rattle.wording.specs.Words.{wordOf}
 use Rattle.wording.specs.Sixteen.{hexDigit, hexText, literal, symbolText}
 use Rattle.wording.specs.Script.{script}
-use Rattle.wording.proofs.Sexps.{width16}
-use Rattle.wording.proofs.Spelt.{width-spelled}
-use Rattle.wording.proofs.Forms.{scriptBy}
-use Rattle.wording.proofs.Bits.{bitsLiteral}
+use Rattle.forms.specs.Form.{scriptBy}
+use Rattle.forms.specs.Binary.{bitsLiteral}
+use Rattle.forms.proofs.Sexps.{width16}
+use Rattle.forms.proofs.Spelt.{width-spelled}
 use Rattle.writer.specs.Writes.{enoughRoom}
 use Rattle.agreement.specs.Starred.{sheetFrom, sheetA, sheet8, sheet11}
 use Rattle.agreement.specs.Statements.{Sheet, settingOf, Matched, Listed}
 use Rattle.agreement.proofs.Proved.{held as held-in-16}
-use Rattle.agreement.proofs.Proved.{tallied, checked, sheet-of-rule, rule-of-sheet, one-byte-changed, holds-where, room-enough, match, match-in-bits, check-agrees, tally-agrees, same-script}
+use Rattle.agreement.proofs.Proved.{tallied, checked, sheet-of-rule, rule-of-sheet, one-byte-changed, holds-where, room-enough, name-empty, block-empty, match, match-in-bits, check-agrees, tally-agrees, same-script}
 
 -- ---- what is computed of a sheet, and of one with other names
 pub record Facts : Type 0 where
@@ -106,10 +115,10 @@ module _ {s other : List ℕ} {heldCases failedCases : ℕ} {firstCase : Option 
   two-variables = fact (λ (x : Facts). x .variables)
 
   pub sheet : Sheet s
-  sheet = record { bytes = bytes-by s (fact (λ (x : Facts). x .are-bytes .0)); no-row = accepted-exactly s .0 accepts }
+  sheet = record { bytes = bytes-by s (fact (λ (x : Facts). x .are-bytes .0)); no-row = sheet-exactly s .passed .0 accepts }
 
   pub other-sheet : Sheet other
-  other-sheet = record { bytes = bytes-by other (fact (λ (x : Facts). x .are-bytes .1)); no-row = accepted-exactly other .0 (fact (λ (x : Facts). x .refusals .1)) }
+  other-sheet = record { bytes = bytes-by other (fact (λ (x : Facts). x .are-bytes .1)); no-row = sheet-exactly other .passed .0 (fact (λ (x : Facts). x .refusals .1)) }
 
   pub few-cases : caseCount (ruleIn s) ≤ mostCases
   few-cases = rw (fact (λ (x : Facts). x .cases)) few
@@ -133,11 +142,11 @@ module _ {s other : List ℕ} {heldCases failedCases : ℕ} {firstCase : Option 
   pub script-fits : length (script (ruleIn s)) ≤ enoughRoom
   script-fits = room-enough s sheet
 
-  pub matches : Matched 16 (ruleIn s) (script (ruleIn s))
-  matches = match s sheet .0
+  pub matches : Matched 16 symbolText (ruleIn s) (script (ruleIn s))
+  matches = match s sheet
 
   -- in binary too
-  pub matches-in-bits : Matched 16 (ruleIn s) (scriptBy (bitsLiteral 16) symbolText width16 (ruleIn s))
+  pub matches-in-bits : Matched 16 symbolText (ruleIn s) (scriptBy (bitsLiteral 16) symbolText width16 (ruleIn s))
   matches-in-bits = match-in-bits width16 width-spelled (lit≤ tt) (ruleIn s) (allowed-sheet .0 .well-formed) (held-in-16 sheet)
 
   pub as-many : (ts : List (List ℕ)) × Listed (script (ruleIn s)) ts × (failedCases ≡ length ts)
@@ -148,7 +157,7 @@ module _ {s other : List ℕ} {heldCases failedCases : ℕ} {firstCase : Option 
   same-size = same-script s other sheet other-sheet (c .scripts) .0
 
   pub same-domain : byteAt s 10 ≡ byteAt other 10
-  same-domain = same-script s other sheet other-sheet (c .scripts) .1 10 (record { size = λ i h e. omega arith; name = λ i h e. omega arith; check = λ h. omega arith })
+  same-domain = same-script s other sheet other-sheet (c .scripts) .1 10 (domain-nameless (variableCount s) 0 2 (omega arith))
 
   -- ---- the check, with room for three numbers
   module _ (room : List ℤ) (three : length room ≡ 3) where
@@ -190,7 +199,7 @@ abbrev pub sheet11-renamed : List ℕ
 sheet11-renamed = sheetFrom "0100 0500 02" ("fdff 0200 01 00 70" ∷ "fcff 0500 01 00 71" ∷ []) "0e6e" ("1100 0000" ∷ "1100 0100" ∷ "1500 0000 0100" ∷ "1000 0000 0000 0000 0c00" ∷ "0a00 0200 0300" ∷ []) "bc0d"
 
 pub computed : Computed sheetA sheetB 2 2 (some (pos 0 ∷ pos 1 ∷ [])) × Computed sheet11 sheet11-renamed 60 0 none
-unfolding value sizeOf casesOf holds failures firstFailure held failed treeAt allBelow below course first enc dec isNarrow hasNarrowEnds leastOf greatestOf find kindOf by-rows weighted checkOf blockRight startAt ofTree ofNode lengthRight early zeros countsRight tailClear outsideClear header isLetter isNameByte allNameBytes nameRight sameBytes variableRight fresh findingOf placed typed nodeRefusal nodes refusalOf wordOf hexDigit hexText literal symbolText script
+unfolding value sizeOf casesOf holds failures firstFailure held failed treeAt allBelow below course first enc dec isNarrow hasNarrowEnds leastOf greatestOf find kindOf weighted checkOf blockRight startAt ofTree ofNode lengthRight early zeros countsRight tailClear outsideClear header isLetter isNameByte allNameBytes nameRight sameBytes variableRight fresh findingOf placed typed nodeRefusal nodes refusalOf hexDigit hexText literal symbolText script
 computed = (record { facts = refl; scripts = refl }, record { facts = refl; scripts = refl })
 
 abbrev computedA : Computed sheetA sheetB 2 2 (some (pos 0 ∷ pos 1 ∷ []))
@@ -219,6 +228,18 @@ names-alone-A = (same-size computedA (lit≤ tt), same-domain computedA (lit≤ 
 pub unsatisfiable-11 : (t : List ℕ) → Satisfies (script (ruleIn sheet11)) t → ⊥
 unsatisfiable-11 = no-setting computed11 (lit≤ tt) three refl refl
 
+-- no setting satisfies them, but they are accepted, and declare two symbols: in hexadecimal and in binary
+abbrev two-symbols : List Declaration
+two-symbols = record { name = ascii "v0"; sort = bitVec 16 } ∷ record { name = ascii "v1"; sort = bitVec 16 } ∷ []
+
+pub declared-11 : declared (script (ruleIn sheet11)) ≡ some two-symbols
+unfolding symbolText
+declared-11 = matches computed11 (lit≤ tt) .declares
+
+pub declared-in-bits-11 : declared (scriptBy (bitsLiteral 16) symbolText width16 (ruleIn sheet11)) ≡ some two-symbols
+unfolding symbolText
+declared-in-bits-11 = matches-in-bits computed11 (lit≤ tt) .declares
+
 pub holds-11 : AllHold (ruleIn sheet11)
 holds-11 = all-hold computed11 (lit≤ tt) three refl refl
 
@@ -240,6 +261,22 @@ pub case-A : Case (ruleIn sheetA) (pos 0 ∷ pos 1 ∷ [])
 case-A = first-fails (ruleIn sheetA) (first-is computedA (lit≤ tt)) .0
 
 -- ---- a sheet that is refused: 16,384 + 16,384 at node 2
-pub refused-8 : Answer sheet8 (record { number = 8; place = 2 })
+pub refusal-8 : refusalOf sheet8 ≡ some (record { number = 8; place = 2 })
 unfolding allBelow below course first dec isNarrow hasNarrowEnds leastOf greatestOf find kindOf weighted checkOf blockRight startAt ofNode lengthRight early zeros countsRight tailClear outsideClear header isLetter isNameByte allNameBytes nameRight sameBytes variableRight fresh findingOf placed typed nodeRefusal nodes refusalOf
-refused-8 = refused-exactly sheet8 (record { number = 8; place = 2 }) .0 refl
+refusal-8 = refl
+
+pub refused-8 : Answered (sheetRows sheet8) (record { number = 8; place = 2 })
+refused-8 = sheet-exactly sheet8 .refused (record { number = 8; place = 2 }) .0 refusal-8
+
+-- ---- parts of a lent sheet: a name of sheet A, none of the sheet that is refused, and no third block of sheet A
+abbrev lent : List ℕ → RefT (List ℕ)
+lent s = record { ptr = (0, 0); name = 0; now = s }
+
+pub name-A : (part : RefT (List ℕ)) → NamePart (lent sheetA) 0 part → length (part .now) ≡ 0 → ⊥
+name-A part p e = ⊎-elim (λ w. let z : _≡_ {A = ℕ} 0 1 = cc (w .1, accepts computedA (lit≤ tt)) in omega arith) (λ l. omega (arith, two-variables computedA (lit≤ tt))) (name-empty (lent sheetA) part 0 p .0 e)
+
+pub no-name-8 : (part : RefT (List ℕ)) → NamePart (lent sheet8) 0 part → length (part .now) ≡ 0
+no-name-8 part p = name-empty (lent sheet8) part 0 p .1 (inl (record { number = 8; place = 2 }, refusal-8))
+
+pub no-block-A : (part : RefT (List ℕ)) → BlockPart (lent sheetA) 2 part → length (part .now) ≡ 0
+no-block-A part p = block-empty (lent sheetA) part 2 p .1 (inl (λ h. omega (arith, fact computedA (lit≤ tt) (λ (x : Facts). x .size))))

@@ -1,69 +1,87 @@
 -- The promises of `specs/Statements`, proved. Assumes nothing.
-use Prim.Native.Nat.{ℕ, suc, _≤_}
+use Prim.Native.Nat.{ℕ, suc, _+_, _*_, _≤_}
 use mathlib.Core.Path.{_≡_, refl, ap, subst, _∙_}
-use mathlib.Core.Logic.{_↔_, Iff·trans}
+use mathlib.Core.Logic.{_↔_, Iff·trans, _⊎_, inl, inr, ⊎-elim}
 use mathlib.Core.List.{List, [], _∷_, map, List·Memᴰ, Memᴰ·map, Memᴰ·of-map}
-use mathlib.Core.Option.{none, some}
+use mathlib.Core.Option.{Option, none, some}
+use native.Mathlib.Decide.{decLt, decLe}
 use native.Mathlib.Omega.{arith}
 use lib.IntN.{ℤ}
 use lib.ListN.{length, take, length-map}
 use Rattle.lists.specs.Places.{from, NoRepeats}
+use Rattle.lists.proofs.PartLaws.{empty-where}
 use Rattle.numbers.proofs.Bytes16.{narrow-within}
 use Rattle.numbers.proofs.NarrowLaws.{in-narrow}
 use Rattle.meaning.specs.declared.Sort.{Sort}
 use Rattle.meaning.specs.declared.Sort.the-variants.{Truth, Integer}
 use Rattle.meaning.specs.Tree.{Tree}
-use Rattle.meaning.specs.Rule.{Variable, domainOf, Case, valueIn}
+use Rattle.meaning.specs.Rule.{domainOf, Case, valueIn}
 use Rattle.meaning.specs.Cases.{Failing, failures}
 use Rattle.meaning.proofs.Listed.{listed, in-order, in-every}
 use Rattle.meaning.proofs.Counts.{case-count, held-failed}
 use Rattle.meaning.proofs.Repeats.{map-no-repeats}
 use Rattle.meaning.proofs.Failures.{failures-are, failures-once, failed-is}
-use Rattle.kinds.proofs.ClaimLaws.{follows}
-use Rattle.layout.specs.Parts.{variableCount, ruleIn, LaidOut}
+use Rattle.layout.specs.Limits.{blockBytes}
+use Rattle.layout.specs.Parts.{variableCount, ruleIn}
+use Rattle.layout.specs.LaidOut.{LaidOut}
 use Rattle.layout.specs.Sheet.{sheetOf}
-use Rattle.layout.proofs.PartLaws.{variable-total}
 use Rattle.layout.proofs.SheetBack.{sheet-laid-out}
 use Rattle.layout.proofs.Agree.{lengths, agrees}
+use Rattle.refusals.specs.declared.Refusal.{Refusal}
+use Rattle.refusals.proofs.AfterLaws.{passes}
 use Rattle.findings.proofs.SoundFindings.{tree-range, value-in}
 use Rattle.reading.specs.Cascade.{refusalOf}
-use Rattle.reading.specs.Lawful.{FitsIn, Allowed}
-use Rattle.reading.proofs.Exact.{refused-exactly, accepted-exactly}
+use Rattle.reading.specs.Lawful.{Allowed}
+use Rattle.reading.specs.Name.{NameGiven}
+use Rattle.reading.proofs.Exact.{sheet-exactly}
+use Rattle.reading.proofs.NameLaws.{given-name}
 use Rattle.reading.proofs.RuleLaws.{accepted-means, rule-some, rule-exactly, rule-to-sheet, rule-allowed, sheet-to-rule}
 use Rattle.reading.proofs.Change.{changed-byte}
 use Rattle.odometer.specs.Limit.{mostCases, caseCount}
 use Rattle.cases.specs.declared.Checked.the-variants.{Fails}
 use Rattle.cases.specs.Checks.{tryRefusal, checkRefusal}
-use Rattle.cases.proofs.Exact.{tally-none, tally-exactly, check-none, check-exactly}
+use Rattle.cases.proofs.Exact.{tally-exactly, check-exactly}
 use Rattle.cases.proofs.Agreement.{fails-exactly, holds-exactly, room-fails}
-use Rattle.smtlib.specs.Values.{bitVec}
-use Rattle.smtlib.specs.Commands.{Declaration}
-use Rattle.smtlib.specs.Satisfaction.{declaredBy, declared, Satisfies}
+use Rattle.smtlib.specs.Satisfaction.{Satisfies}
 use Rattle.wording.specs.Sixteen.{symbolText}
 use Rattle.wording.specs.Script.{script}
-use Rattle.wording.proofs.Sexps.{declares, constant16}
-use Rattle.wording.proofs.Injective.{script-injective}
-use Rattle.wording.proofs.Forms.{form16, script-by, script-read}
-use Rattle.wording.proofs.Bits.{form-bits}
-use Rattle.wording.proofs.MeansTrees.{NoWrap}
-use Rattle.wording.proofs.MeansClaims.{WidthHolds}
-use Rattle.wording.proofs.MeansMatch.{one-case}
-use Rattle.wording.proofs.MeansScript.{form-means, held16}
+use Rattle.forms.specs.Width.{WidthHolds}
+use Rattle.forms.proofs.Injective.{script-injective}
+use Rattle.forms.proofs.Forms.{form-declares, form16, script-by}
+use Rattle.forms.proofs.Bits.{form-bits}
+use Rattle.forms.proofs.MeansMatch.{one-case}
+use Rattle.forms.proofs.MeansScript.{form-means, held16}
 use Rattle.writer.proofs.ScriptLaws.{script-short}
 use Rattle.writer.proofs.Exact.{script-exactly}
 use Rattle.agreement.specs.Statements as promise
-use Rattle.agreement.specs.Statements.{Sheet, settingOf, symbols, Matched, Listed}
+use Rattle.agreement.specs.Statements.{Sheet, settingOf, Matched, Listed}
 
 -- ---- demand 1
 pub refused-by-row : promise.RefusedExactly
-refused-by-row s = (refused-exactly s, accepted-exactly s)
+refused-by-row = sheet-exactly
 
 pub calls-refused-by-row : promise.CallsRefusedExactly
-calls-refused-by-row s room r = (tally-exactly s r, check-exactly s room r, script-exactly s room r)
+calls-refused-by-row s room = (tally-exactly s, check-exactly s room, script-exactly s room)
+
+pub name-empty : promise.NameEmpty
+name-empty sheet part i p = Iff·trans (empty-where (λ g. let n = given-name (sheet .now) i g in (n .some-byte, n .inside)) p) (λ f. go (refusalOf (sheet .now)) refl f, back)
+  where
+    go : (o : Option Refusal) → refusalOf (sheet .now) ≡ o → (NameGiven (sheet .now) i → ⊥) → ((r : Refusal) × (refusalOf (sheet .now) ≡ some r)) ⊎ (variableCount (sheet .now) ≤ i)
+    go (some r) e f = inl (r, e)
+    go none e f = inr (elim (decLt i (variableCount (sheet .now))) [ yes l ↦ absurd (f (e, l)) | no l ↦ omega arith ])
+
+    back : ((r : Refusal) × (refusalOf (sheet .now) ≡ some r)) ⊎ (variableCount (sheet .now) ≤ i) → NameGiven (sheet .now) i → ⊥
+    back (inl w) g = let z : _≡_ {A = ℕ} 0 1 = cc (w .1, g .0) in omega arith
+    back (inr l) g = omega (arith, g .1)
+
+pub block-empty : promise.BlockEmpty
+block-empty sheet part k p =
+    Iff·trans (empty-where (λ g. (omega arith, omega (arith, g .0))) p)
+    (λ f. elim (decLe (blockBytes * k + blockBytes) (length (sheet .now))) [ yes l ↦ inr (λ e. f (l, e)) | no l ↦ inl l ], λ w g. ⊎-elim (λ f. f (g .0)) (λ f. f (g .1)) w)
 
 module _ {s : List ℕ} (h : Sheet s) where
   accepts : refusalOf s ≡ none
-  accepts = accepted-exactly s .1 (h .no-row)
+  accepts = sheet-exactly s .passed .1 (h .no-row)
 
   pub allowed : Allowed (ruleIn s)
   allowed = rule-allowed s (h .bytes) (ruleIn s) (rule-some s accepts)
@@ -77,7 +95,7 @@ sheet-of-rule s h = (allowed h, rule-to-sheet s (h .bytes) (ruleIn s) (rule-some
 pub rule-of-sheet : promise.RuleOfSheet
 rule-of-sheet r a =
     let w = rule-exactly (sheetOf r) r .0 (sheet-to-rule r a) in
-    (record { bytes = sheet-laid-out r (a .well-formed) .bytes; no-row = accepted-exactly (sheetOf r) .0 (w .0) }, w .1)
+    (record { bytes = sheet-laid-out r (a .well-formed) .bytes; no-row = sheet-exactly (sheetOf r) .passed .0 (w .0) }, w .1)
 
 pub one-byte-changed : promise.OneByteChanged
 one-byte-changed s h = changed-byte s (h .bytes) (accepts h)
@@ -91,10 +109,11 @@ all-counted r = (held-failed r, case-count r)
 
 module _ {s : List ℕ} (h : Sheet s) (few : caseCount (ruleIn s) ≤ mostCases) where
   pub tallied : tryRefusal s ≡ none
-  tallied = tally-none s .1 (h .no-row, λ l. omega (arith, case-count (ruleIn s)))
+  tallied = passes (caseCount (ruleIn s)) mostCases 10 0 (accepts h) few
 
   pub checked : {room : ℕ} → variableCount s ≤ room → checkRefusal s room ≡ none
-  checked {room} l = check-none s room .1 (h .no-row, λ m. omega (arith, case-count (ruleIn s)), λ m. omega arith)
+  unfolding checkRefusal
+  checked {room} l = passes (variableCount s) room 9 (variableCount s) tallied l
 
 pub holds-where : promise.HoldsExactly
 holds-where s h few before after r l c = holds-exactly s c (checked h few l)
@@ -108,6 +127,7 @@ room-enough s h = script-short s (accepts h)
 -- ---- demand 3: the match, over any width
 pub match-at-width : promise.MatchAtWidth
 match-at-width literal name digits m form r few well h = record {
+  declares = form-declares form r few well;
   satisfies = λ c f. form-means form r few well h _ .1 (c, f, refl);
   apart = λ c d f g. one-case (form .texts .some-bits) h (f .0) (g .0);
   onto = λ t. form-means form r few well h t .0;
@@ -117,33 +137,24 @@ pub match-in-bits : promise.MatchInBits
 match-in-bits digits spelled positive r well = match-at-width _ _ _ _ (form-bits digits spelled positive) r (omega (arith, well .few)) well
 
 -- in a case of an accepted sheet no operator wraps, since each value lies in its range
-module _ {s : List ℕ} (h : Sheet s) where
-  no-wrap : {c : List ℤ} → Case (ruleIn s) c → (a : Sort) (t : Tree a) → FitsIn (ruleIn s) a t → NoWrap 16 (valueIn c) a t
-  no-wrap k Truth t f = tt
-  no-wrap k Integer t f = narrow-within (in-narrow (rw (tree-range (domainOf (ruleIn s)) t) at f) (value-in (in-every k) t))
+pub in-sixteen : promise.InSixteenBits
+in-sixteen s h c k t p = in-narrow (rw (tree-range (domainOf (ruleIn s)) t) at (allowed h .lawful .ranges Integer t p)) (value-in (in-every k) t)
 
-  pub held : WidthHolds 16 (ruleIn s)
-  held = held16 (allowed h .well-formed) (λ c k. follows (FitsIn (ruleIn s)) (NoWrap 16 (valueIn c)) (no-wrap k) (ruleIn s .goal) (allowed h .lawful .ranges))
-
-declares-from : (i : ℕ) (vs : List Variable) → declares constant16 symbolText 16 i vs ≡ from (λ j. record { name = symbolText j; sort = bitVec 16 }) i (length vs)
-declares-from i [] = refl
-declares-from i (v ∷ vs) = ap (λ (l : List Declaration). record { name = symbolText i; sort = bitVec 16 } ∷ l) (declares-from (suc i) vs)
+pub held : {s : List ℕ} → Sheet s → WidthHolds 16 (ruleIn s)
+held {s} h = held16 (allowed h .well-formed) (λ c k t p. narrow-within (in-sixteen s h c k t p))
 
 pub match : promise.Match
-unfolding declared
 match s h =
-    let well = allowed h .well-formed in (
-      rw (script-by (ruleIn s)) (match-at-width _ _ _ _ form16 (ruleIn s) (omega (arith, well .few)) well (held h)),
-      ap declaredBy (script-read (ruleIn s) well) ∙ ap some (declares-from 0 (ruleIn s .variables)) ∙ ap (λ (n : ℕ). some (symbols n)) (variable-total s),
-    )
+    let well = allowed h .well-formed in
+    rw (script-by (ruleIn s)) (match-at-width _ _ _ _ form16 (ruleIn s) (omega (arith, well .few)) well (held h))
 
 -- ---- the check and the tally
 module _ (s : List ℕ) (h : Sheet s) where
   abbrev SomeSetting : Type 0
   SomeSetting = (t : List ℕ) × Satisfies (script (ruleIn s)) t
 
-  matched : Matched 16 (ruleIn s) (script (ruleIn s))
-  matched = match s h .0
+  matched : Matched 16 symbolText (ruleIn s) (script (ruleIn s))
+  matched = match s h
 
   some-setting : ((c : List ℤ) × Failing (ruleIn s) c) ↔ SomeSetting
   some-setting = (λ p. (settingOf 16 (p .0), matched .satisfies (p .0) (p .1)), λ w. let p = matched .onto (w .0) (w .1) in (p .0, p .1))

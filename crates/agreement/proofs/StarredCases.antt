@@ -15,7 +15,6 @@ use Rattle.numbers.specs.Ranges.{isNarrow, hasNarrowEnds, leastOf, greatestOf}
 use Rattle.meaning.specs.Value.{value}
 use Rattle.meaning.specs.Cases.{sizeOf, casesOf, holds, failures, firstFailure, held, failed}
 use Rattle.kinds.specs.Kinds.{find, kindOf}
-use Rattle.kinds.specs.Rows.{by-rows}
 use Rattle.layout.specs.Checks.{weighted, checkOf, blockRight}
 use Rattle.layout.specs.Starts.{startAt}
 use Rattle.layout.specs.Goal.{treeAt}
@@ -25,7 +24,8 @@ use Rattle.refusals.specs.declared.Refusal.{Refusal}
 use Rattle.refusals.specs.declared.Reading.the-variants.{Accepted}
 use Rattle.blocks.specs.Early.{lengthRight, early}
 use Rattle.header.specs.Header.{zeros, countsRight, tailClear, outsideClear, header}
-use Rattle.records.specs.Variables.{isLetter, isNameByte, allNameBytes, nameRight, sameBytes, variableRight, fresh}
+use Rattle.lists.specs.Names.{sameBytes}
+use Rattle.records.specs.Variables.{isLetter, isNameByte, allNameBytes, nameRight, variableRight, fresh}
 use Rattle.findings.specs.Findings.{findingOf}
 use Rattle.order.specs.Order.{placed}
 use Rattle.nodes.specs.Nodes.{typed, nodeRefusal, nodes}
@@ -76,7 +76,7 @@ a & b = (a, b)
 
 infixr 20 _&_
 pub starred : EachMet starredCases
-unfolding value sizeOf casesOf holds failures firstFailure held failed treeAt below course first enc dec leastOf greatestOf find kindOf by-rows ofTree ofNode findingOf wordOf hexDigit hexText literal symbolText script over
+unfolding value sizeOf casesOf holds failures firstFailure held failed treeAt below course first enc dec leastOf greatestOf find kindOf ofTree ofNode findingOf hexDigit hexText literal symbolText script over
 starred =
     (sym (in-row 0 reads) & tt)
     & (sym (in-row 1 reads) & checks-as _ (in-row 1 reads) refl _ refl refl refl & tallies-as _ (in-row 1 reads) refl refl refl & writes-as _ (in-row 1 reads) _ refl refl & tt)

@@ -2,7 +2,7 @@
 -- in `proofs/Applied`. What each call answers stands beside it: `refusalOf`, `NamePart`, `BlockPart`, `Checks`, `Tallies`, `Writes`, `capi/specs/Codes`.
 use Prim.Native.Nat.{ℕ, _+_, _/_, _≤_, _<_}
 use mathlib.Core.Path.{_≡_}
-use mathlib.Core.Logic.{_↔_}
+use mathlib.Core.Logic.{_↔_, _⊎_}
 use mathlib.Core.List.{List, map, List·Memᴰ}
 use mathlib.Core.Option.{none, some}
 use lib.IntN.{ℤ}
@@ -11,45 +11,52 @@ use denote.Ref.{RefT}
 use Rattle.lists.specs.Places.{from, NoRepeats}
 use Rattle.lists.specs.Part.{SamePart}
 use Rattle.refusals.specs.declared.Refusal.{Refusal}
+use Rattle.refusals.specs.Rows.{Exactly}
 use Rattle.numbers.specs.Two.{enc}
 use Rattle.numbers.specs.Bytes.{byteAt, Bytes}
-use Rattle.meaning.specs.Rule.{Rule, Case}
+use Rattle.numbers.specs.Ranges.{Narrow}
+use Rattle.meaning.specs.declared.Sort.the-variants.{Integer}
+use Rattle.meaning.specs.Tree.{Tree}
+use Rattle.meaning.specs.Value.{value}
+use Rattle.meaning.specs.Rule.{Rule, Case, valueIn}
 use Rattle.meaning.specs.Cases.{casesOf, Failing, AllHold, held, failed}
 use Rattle.meaning.specs.CaseOrder.{Earlier, Rising, FirstFailing}
+use Rattle.kinds.specs.Rows.{PartOf}
 use Rattle.layout.specs.Limits.{blockBytes}
+use Rattle.layout.specs.Checks.{checkOf, content, storedCheck, Inside}
 use Rattle.layout.specs.WellFormed.{WellFormed}
 use Rattle.layout.specs.Parts.{variableCount, ruleIn, Nameless}
 use Rattle.layout.specs.Sheet.{sheetOf}
 use Rattle.refusals.specs.declared.Reading.{Reading}
 use Rattle.refusals.specs.Said.{saidOf}
 use Rattle.blocks.specs.Block.{BlockPart}
-use Rattle.reading.specs.Name.{NamePart}
 use Rattle.capi.specs.Codes.{CheckCodes, ScriptCodes}
-use Rattle.reading.specs.Rows.{Answer, Accepted}
+use Rattle.reading.specs.Rows.{sheetRows, Accepted}
 use Rattle.reading.specs.Cascade.{refusalOf}
 use Rattle.reading.specs.Lawful.{Allowed}
+use Rattle.reading.specs.Name.{NamePart}
 use Rattle.odometer.specs.Limit.{mostCases, caseCount}
 use Rattle.cases.specs.declared.Checked.{Checked}
 use Rattle.cases.specs.declared.Checked.the-variants.{Holds, Fails, Refused as Checked·Refused}
 use Rattle.cases.specs.declared.Tallied.{Tallied}
 use Rattle.cases.specs.Checks.{tryRefusal, checkRefusal, Checks}
 use Rattle.cases.specs.Tallies.{Tallies}
-use Rattle.cases.specs.Rows.{TallyRow, CheckRow}
+use Rattle.cases.specs.Rows.{tallyRows, checkRows}
 use Rattle.smtlib.specs.Tokens.{numeral}
 use Rattle.smtlib.specs.Values.{bitVec}
 use Rattle.smtlib.specs.Terms.{numberOf}
 use Rattle.smtlib.specs.Commands.{Declaration}
 use Rattle.smtlib.specs.Satisfaction.{declared, Satisfies}
-use Rattle.smtlib.proofs.Printing.{Spelled}
+use Rattle.smtlib.specs.Spelling.{Spelled}
 use Rattle.wording.specs.Sixteen.{symbolText}
 use Rattle.wording.specs.Script.{script}
-use Rattle.wording.proofs.Forms.{Form, scriptBy}
-use Rattle.wording.proofs.Bits.{bitsLiteral}
-use Rattle.wording.proofs.MeansClaims.{WidthHolds}
+use Rattle.forms.specs.Form.{Form, scriptBy}
+use Rattle.forms.specs.Binary.{bitsLiteral}
+use Rattle.forms.specs.Width.{WidthHolds}
 use Rattle.writer.specs.declared.Written.{Written}
 use Rattle.writer.specs.declared.Written.the-variants.{Script, Refused}
 use Rattle.writer.specs.Writes.{scriptRefusal, enoughRoom, Writes}
-use Rattle.writer.specs.Rows.{ScriptRow}
+use Rattle.writer.specs.Rows.{scriptRows}
 
 -- an accepted sheet: bytes to which no row of the table of refusals applies
 pub record Sheet (s : List ℕ) : Type 0 where
@@ -58,15 +65,23 @@ pub record Sheet (s : List ℕ) : Type 0 where
 
 -- ---- demand 1: any bytes; exactly the number and place of the table, and nothing refused without that cause
 abbrev pub RefusedExactly : Type 0
-RefusedExactly = (s : List ℕ) → ((r : Refusal) → (refusalOf s ≡ some r) ↔ Answer s r) × ((refusalOf s ≡ none) ↔ Accepted s)
+RefusedExactly = (s : List ℕ) → Exactly (sheetRows s) (refusalOf s)
 
 -- 10 and 9, for the calls that give them: the tally, the check with so many numbers of room, the writer with so many bytes
 abbrev pub CallsRefusedExactly : Type 0
 CallsRefusedExactly =
-    (s : List ℕ) (room : ℕ) (r : Refusal)
-    → ((tryRefusal s ≡ some r) ↔ TallyRow s (r .number) (r .place))
-    × ((checkRefusal s room ≡ some r) ↔ CheckRow s room (r .number) (r .place))
-    × ((scriptRefusal s room ≡ some r) ↔ ScriptRow s room (r .number) (r .place))
+    (s : List ℕ) (room : ℕ) → Exactly (tallyRows s) (tryRefusal s) × Exactly (checkRows s room) (checkRefusal s room) × Exactly (scriptRows s room) (scriptRefusal s room)
+
+-- a name is empty exactly where the sheet is refused or the variable isn't below V; a block's content, where the block isn't wholly inside or its check is wrong
+abbrev pub NameEmpty : Type 0
+NameEmpty =
+    (sheet part : RefT (List ℕ)) (i : ℕ) → NamePart sheet i part
+    → (length (part .now) ≡ 0) ↔ (((r : Refusal) × (refusalOf (sheet .now) ≡ some r)) ⊎ (variableCount (sheet .now) ≤ i))
+
+abbrev pub BlockEmpty : Type 0
+BlockEmpty =
+    (sheet part : RefT (List ℕ)) (k : ℕ) → BlockPart sheet k part
+    → (length (part .now) ≡ 0) ↔ ((Inside (sheet .now) k → ⊥) ⊎ (checkOf k (content (sheet .now) k) ≡ storedCheck (sheet .now) k → ⊥))
 
 -- an accepted sheet is what the layout writes of its rule, and each rule that is allowed has such a sheet
 abbrev pub SheetOfRule : Type 0
@@ -120,6 +135,10 @@ RoomKept =
     → ((before after : List ℤ) (r : Checked) → Checks s before r after → CheckRoom s before r after)
     × ((before after : List ℕ) (r : Written) → Writes s before r after → ScriptRoom s before r after)
 
+-- in no case does an operator leave 16 bits: each integer in the goal has a value in -32,768..32,767
+abbrev pub InSixteenBits : Type 0
+InSixteenBits = (s : List ℕ) → Sheet s → (c : List ℤ) → Case (ruleIn s) c → (t : Tree Integer) → PartOf t (ruleIn s .goal) → Narrow (value (valueIn c) t)
+
 -- a room of 4,096 bytes is enough for every script
 abbrev pub RoomEnough : Type 0
 RoomEnough = (s : List ℕ) → Sheet s → length (script (ruleIn s)) ≤ enoughRoom
@@ -128,32 +147,33 @@ RoomEnough = (s : List ℕ) → Sheet s → length (script (ruleIn s)) ≤ enoug
 abbrev pub settingOf : ℕ → List ℤ → List ℕ
 settingOf w c = map (enc w) c
 
--- the rule's failing cases and the settings that satisfy a text match one to one
-pub record Matched (w : ℕ) (r : Rule) (text : List ℕ) : Type 0 where
+-- a symbol of w bits for each of n variables, in order
+abbrev pub symbols : ℕ → (ℕ → List ℕ) → ℕ → List Declaration
+symbols w name n = from (λ i. record { name = name i; sort = bitVec w }) 0 n
+
+-- SMT-LIB accepts the text, which declares these symbols and no others; and the rule's failing cases and the settings that satisfy the text match one to one
+pub record Matched (w : ℕ) (name : ℕ → List ℕ) (r : Rule) (text : List ℕ) : Type 0 where
+  pub declares : declared text ≡ some (symbols w name (length (r .variables)))
   pub satisfies : (c : List ℤ) → Failing r c → Satisfies text (settingOf w c)
   pub apart : (c d : List ℤ) → Failing r c → Failing r d → settingOf w c ≡ settingOf w d → c ≡ d
   pub onto : (t : List ℕ) → Satisfies text t → (c : List ℤ) × Failing r c × (settingOf w c ≡ t)
 
--- for every accepted sheet and its script, whose symbols are v0 to v(V - 1), in that order
-abbrev pub symbols : ℕ → List Declaration
-symbols n = from (λ i. record { name = symbolText i; sort = bitVec 16 }) 0 n
-
+-- for every accepted sheet and its script, whose symbols are v0 to v(V - 1)
 abbrev pub Match : Type 0
-Match = (s : List ℕ) → Sheet s → Matched 16 (ruleIn s) (script (ruleIn s)) × (declared (script (ruleIn s)) ≡ some (symbols (variableCount s)))
+Match = (s : List ℕ) → Sheet s → Matched 16 symbolText (ruleIn s) (script (ruleIn s))
 
--- over any width that holds the rule, and any form of the script at that width; what both are (`WidthHolds`, `Form`) is about the text and about its
--- reading, and stands where both are known, in `wording/proofs`
+-- over any width that holds the rule, and any form of the script at that width
 abbrev pub MatchAtWidth : Type 0
 MatchAtWidth =
     (literal : ℤ → List ℕ) (name : ℕ → List ℕ) (digits : List ℕ) (m : ℕ) → Form literal name digits m
     → (r : Rule) → length (r .variables) ≤ m → WellFormed r → WidthHolds (numberOf 10 digits) r
-    → Matched (numberOf 10 digits) r (scriptBy literal name digits r)
+    → Matched (numberOf 10 digits) name r (scriptBy literal name digits r)
 
 -- such a form, at every width: a constant is `#b` and so many binary digits
 abbrev pub MatchInBits : Type 0
 MatchInBits =
     (digits : List ℕ) → Spelled (numeral digits) → 1 ≤ numberOf 10 digits → (r : Rule) → WellFormed r → WidthHolds (numberOf 10 digits) r
-    → Matched (numberOf 10 digits) r (scriptBy (bitsLiteral (numberOf 10 digits)) symbolText digits r)
+    → Matched (numberOf 10 digits) symbolText r (scriptBy (bitsLiteral (numberOf 10 digits)) symbolText digits r)
 
 -- up to 1,000,000 cases and with room for V numbers, the check reports a failing case exactly when some setting satisfies the script, and the case gives one
 abbrev pub CheckAgrees : Type 0

@@ -13,17 +13,16 @@ use Rattle.numbers.specs.Ranges.{isNarrow, hasNarrowEnds, leastOf, greatestOf}
 use Rattle.meaning.specs.Value.{value}
 use Rattle.meaning.specs.Cases.{sizeOf, casesOf, holds, failures, firstFailure, held, failed}
 use Rattle.kinds.specs.Kinds.{find, kindOf}
-use Rattle.kinds.specs.Rows.{by-rows}
 use Rattle.layout.specs.Checks.{weighted, checkOf, sealed, blockRight}
 use Rattle.layout.specs.Starts.{startAt}
 use Rattle.layout.specs.Goal.{treeAt}
 use Rattle.layout.specs.Fold.{ofTree, ofNode}
-use Rattle.layout.specs.Nodes.{listing}
 use Rattle.layout.specs.Sheet.{sheetOf}
 use Rattle.layout.proofs.Example.{sheetA}
 use Rattle.blocks.specs.Early.{lengthRight, early}
 use Rattle.header.specs.Header.{zeros, countsRight, tailClear, outsideClear, header}
-use Rattle.records.specs.Variables.{isLetter, isNameByte, allNameBytes, nameRight, sameBytes, variableRight, fresh}
+use Rattle.lists.specs.Names.{sameBytes}
+use Rattle.records.specs.Variables.{isLetter, isNameByte, allNameBytes, nameRight, variableRight, fresh}
 use Rattle.findings.specs.Findings.{findingOf}
 use Rattle.order.specs.Order.{placed}
 use Rattle.nodes.specs.Nodes.{typed, nodeRefusal, nodes}
@@ -68,5 +67,5 @@ table =
     ∷ []
 
 pub answers : map (λ (r : Row). answerText (r .0) (r .1)) table ≡ map (λ (r : Row). r .2) table
-unfolding value sizeOf casesOf holds failures firstFailure held failed treeAt allBelow below course first enc dec isNarrow hasNarrowEnds leastOf greatestOf find kindOf by-rows weighted checkOf sealed blockRight startAt ofTree ofNode listing sheetOf lengthRight early zeros countsRight tailClear outsideClear header isLetter isNameByte allNameBytes nameRight sameBytes variableRight fresh findingOf placed typed nodeRefusal nodes refusalOf wordOf hexDigit hexText literal symbolText script decimalIn decimal signed numbersLine refusalLine answered nameValue nameValues checkLine answerText
+unfolding value sizeOf casesOf holds failures firstFailure held failed treeAt allBelow below course first enc dec isNarrow hasNarrowEnds leastOf greatestOf find kindOf weighted checkOf sealed blockRight startAt ofTree ofNode sheetOf lengthRight early zeros countsRight tailClear outsideClear header isLetter isNameByte allNameBytes nameRight sameBytes variableRight fresh findingOf placed typed nodeRefusal nodes refusalOf hexDigit hexText literal symbolText script decimalIn decimal signed numbersLine refusalLine answered nameValue nameValues checkLine answerText
 answers = refl

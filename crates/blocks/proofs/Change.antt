@@ -10,7 +10,7 @@ use native.Mathlib.Omega.{arith}
 use borrow.Author.Tests.{eqb-true, ne-eqb}
 use lib.ListN.{length, set, length-take, length-drop, length-set}
 use lib.Seq.{drop-set-lt, drop-set-add, take-set-le, take-set-lt, getD-set-same, getD-set-other, getD-take, getD-drop}
-use Rattle.numbers.specs.Bytes.{byteAt, Bytes}
+use Rattle.numbers.specs.Bytes.{byteLimit, byteAt, Bytes}
 use Rattle.layout.specs.Limits.{blockBytes, contentBytes}
 use Rattle.layout.specs.Checks.{weighted, checkOf, content, storedCheck, blockRight}
 use Rattle.blocks.specs.Early.{early}
@@ -19,7 +19,7 @@ use Rattle.blocks.proofs.Divisors.{rests-differ}
 use Rattle.blocks.proofs.EarlyLaws.{right-length, early-none, early-lowest}
 
 -- a changed content byte changes the check
-check-differs : (k : ℕ) (l : List ℕ) (i b : ℕ) → i < length l → i < contentBytes → b < 256 → byteAt l i < 256 → (b ≡ byteAt l i → ⊥) → checkOf k (set l i b) ≡ checkOf k l → ⊥
+check-differs : (k : ℕ) (l : List ℕ) (i b : ℕ) → i < length l → i < contentBytes → b < byteLimit → byteAt l i < byteLimit → (b ≡ byteAt l i → ⊥) → checkOf k (set l i b) ≡ checkOf k l → ⊥
 unfolding checkOf
 check-differs k l i b h hi hb ha ne e = go (decLt (byteAt l i) b)
   where
@@ -68,7 +68,7 @@ module _ (s : List ℕ) (k i b : ℕ) where
           rw drop-set-lt
 
   -- the block itself is wrong
-  module _ (bytes : Bytes s) (inside : blockBytes * k + i < length s) (byte : b < 256) (new : b ≡ byteAt s (blockBytes * k + i) → ⊥) where
+  module _ (bytes : Bytes s) (inside : blockBytes * k + i < length s) (byte : b < byteLimit) (new : b ≡ byteAt s (blockBytes * k + i) → ⊥) where
     here : i < contentBytes → byteAt (content s k) i ≡ byteAt s (blockBytes * k + i)
     here h = rw (getD-take, getD-drop)
 
@@ -101,7 +101,7 @@ module _ (s : List ℕ) (k i b : ℕ) where
             let le : contentBytes ≤ i = omega arith in
             stored-differs le h (sym e ∙ ap (checkOf k) (content-out le) ∙ was)
 
-pub one-byte : (s : List ℕ) → Bytes s → early s ≡ none → (j b : ℕ) → j < length s → b < 256 → (b ≡ byteAt s j → ⊥) → early (set s j b) ≡ some (record { number = 2; place = j / blockBytes })
+pub one-byte : (s : List ℕ) → Bytes s → early s ≡ none → (j b : ℕ) → j < length s → b < byteLimit → (b ≡ byteAt s j → ⊥) → early (set s j b) ≡ some (record { number = 2; place = j / blockBytes })
 one-byte s bytes passed j b inside byte new =
     let k : ℕ = j / blockBytes in
     let i : ℕ = j % blockBytes in

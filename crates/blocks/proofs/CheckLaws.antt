@@ -7,7 +7,7 @@ use native.Mathlib.Numerals.{add-one, one-add}
 use native.Mathlib.Omega.{arith}
 use lib.ListN.{length, take, set}
 use lib.Seq.{take-suc, length-take-le, take-all}
-use Rattle.numbers.specs.Bytes.{byteAt}
+use Rattle.numbers.specs.Bytes.{byteLimit, mostByte, byteAt}
 use Rattle.layout.specs.Limits.{contentBytes, modulus}
 use Rattle.layout.specs.Checks.{weighted, checkOf}
 
@@ -47,5 +47,5 @@ pub check-lt : (k : ℕ) (l : List ℕ) → checkOf k l < modulus
 unfolding checkOf
 check-lt k l = omega arith
 
-pub weighed-le : {i b : ℕ} → i < contentBytes → b < 256 → (i + 1) * b ≤ 130050
-weighed-le hi hb = mul-le-mul {n₂ = contentBytes} {m₂ = 255} (omega arith) (omega arith)
+pub weighed-le : {i b : ℕ} → i < contentBytes → b < byteLimit → (i + 1) * b ≤ contentBytes * mostByte
+weighed-le hi hb = mul-le-mul {n₂ = contentBytes} {m₂ = mostByte} (omega arith) (omega arith)

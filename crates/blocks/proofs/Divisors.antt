@@ -8,17 +8,18 @@ use borrow.Author.Tests.{eqb-true, not-true}
 use lib.Dec.{eqb}
 use Rattle.lists.specs.Places.{allBelow}
 use Rattle.lists.proofs.TestLaws.{all-true}
+use Rattle.numbers.specs.Bytes.{byteLimit, mostByte}
 use Rattle.layout.specs.Limits.{contentBytes, modulus}
 
 -- d is 1, or does not divide 65,521
 abbrev apart : ℕ → Bool
 apart d = eqb d 1 || not (eqb (modulus % d) 0)
 
-no-divisor : (d : ℕ) → d < 256 → apart d ≡ true
+no-divisor : (d : ℕ) → d < byteLimit → apart d ≡ true
 unfolding allBelow
-no-divisor = all-true apart 256 refl
+no-divisor = all-true apart byteLimit refl
 
-no-factor : (m d : ℕ) → m ≤ contentBytes → d < 256 → m * d ≡ modulus → ⊥
+no-factor : (m d : ℕ) → m ≤ contentBytes → d < byteLimit → m * d ≡ modulus → ⊥
 no-factor m d hm hd e = go (eqb d 1) refl (no-divisor d hd)
   where
     divides : eqb (modulus % d) 0 ≡ true
@@ -31,10 +32,10 @@ no-factor m d hm hd e = go (eqb d 1) refl (no-divisor d hd)
     go false q t = true≢false (sym divides ∙ not-true _ t)
 
 -- two numbers that differ by m times the difference of two bytes have different rests
-pub rests-differ : (x y m a b : ℕ) → 0 < m → m ≤ contentBytes → a < b → b < 256 → x + m * a ≡ y + m * b → x % modulus ≡ y % modulus → ⊥
+pub rests-differ : (x y m a b : ℕ) → 0 < m → m ≤ contentBytes → a < b → b < byteLimit → x + m * a ≡ y + m * b → x % modulus ≡ y % modulus → ⊥
 rests-differ x y m a b pm hm lt hb e r =
     let d : b ≡ a + (b - a) = omega arith in
     let f : m * b ≡ m * a + m * (b - a) = ap (λ (z : ℕ). m * z) d ∙ mul-add m a (b - a) in
     let p : 0 < m * (b - a) = mul-pos pm (omega arith) in
-    let q : m * (b - a) ≤ 130050 = mul-le-mul {n₂ = contentBytes} {m₂ = 255} hm (omega arith) in
+    let q : m * (b - a) ≤ contentBytes * mostByte = mul-le-mul {n₂ = contentBytes} {m₂ = mostByte} hm (omega arith) in
     no-factor m (b - a) hm (omega arith) (omega arith)

@@ -13,21 +13,21 @@ use lib.Dec.{eqb, leb}
 use lib.ListN.{length}
 use Rattle.lists.proofs.TestLaws.{both}
 use Rattle.lists.proofs.FirstLaws.{neither, otherwise-none, otherwise-some, first-none, none-first, some-first}
-use Rattle.layout.specs.Limits.{blockBytes, mostBlocks}
+use Rattle.layout.specs.Limits.{blockBytes, mostSheetBytes}
 use Rattle.layout.specs.Checks.{blockRight}
 use Rattle.refusals.proofs.SaidLaws.{unless-none, unless-true, unless-false}
 use Rattle.blocks.specs.Early.{lengthRight, blockRefusal, checksRefusal, early}
 
 -- the length
 module _ (n : ℕ) where
-  pub length-right : (n ≡ 0 → ⊥) → n % blockBytes ≡ 0 → n ≤ blockBytes * mostBlocks → lengthRight n ≡ true
+  pub length-right : (n ≡ 0 → ⊥) → n % blockBytes ≡ 0 → n ≤ mostSheetBytes → lengthRight n ≡ true
   unfolding lengthRight
-  length-right h e l = rw (ne-eqb n 0 h, eq-eqb (n % blockBytes) 0 e, le-leb n (blockBytes * mostBlocks) l)
+  length-right h e l = rw (ne-eqb n 0 h, eq-eqb (n % blockBytes) 0 e, le-leb n mostSheetBytes l)
 
-  pub right-length : lengthRight n ≡ true → (n ≡ 0 → ⊥) × (n % blockBytes ≡ 0) × (n ≤ blockBytes * mostBlocks)
+  pub right-length : lengthRight n ≡ true → (n ≡ 0 → ⊥) × (n % blockBytes ≡ 0) × (n ≤ mostSheetBytes)
   unfolding lengthRight
   right-length e =
-      let v = both (not (eqb n 0) && eqb (n % blockBytes) 0) (leb n (blockBytes * mostBlocks)) e in
+      let v = both (not (eqb n 0) && eqb (n % blockBytes) 0) (leb n mostSheetBytes) e in
       let w = both (not (eqb n 0)) (eqb (n % blockBytes) 0) (v .0) in
       (eqb-false n 0 (not-true _ (w .0)), eqb-true _ _ (w .1), leb-true _ _ (v .1))
 
@@ -40,19 +40,19 @@ module _ (n : ℕ) where
   unfolding lengthRight
   length-part h = rw (ne-eqb (n % blockBytes) 0 h, and-false)
 
-  pub length-long : blockBytes * mostBlocks < n → lengthRight n ≡ false
+  pub length-long : mostSheetBytes < n → lengthRight n ≡ false
   unfolding lengthRight
-  length-long h = rw (lt-leb n (blockBytes * mostBlocks) h, and-false)
+  length-long h = rw (lt-leb n mostSheetBytes h, and-false)
 
-  pub wrong-length : lengthRight n ≡ false → (n ≡ 0) ⊎ ((n % blockBytes ≡ 0 → ⊥) ⊎ (blockBytes * mostBlocks < n))
+  pub wrong-length : lengthRight n ≡ false → (n ≡ 0) ⊎ ((n % blockBytes ≡ 0 → ⊥) ⊎ (mostSheetBytes < n))
   wrong-length e = go (ℕ-discrete n 0) (ℕ-discrete (n % blockBytes) 0)
     where
-      go : Dec (n ≡ 0) → Dec (n % blockBytes ≡ 0) → (n ≡ 0) ⊎ ((n % blockBytes ≡ 0 → ⊥) ⊎ (blockBytes * mostBlocks < n))
+      go : Dec (n ≡ 0) → Dec (n % blockBytes ≡ 0) → (n ≡ 0) ⊎ ((n % blockBytes ≡ 0 → ⊥) ⊎ (mostSheetBytes < n))
       go (yes p) d = inl p
       go (no p) (no q) = inr (inl q)
-      go (no p) (yes q) = inr (inr (long (decLe n (blockBytes * mostBlocks))))
+      go (no p) (yes q) = inr (inr (long (decLe n mostSheetBytes)))
         where
-          long : Dec (n ≤ blockBytes * mostBlocks) → blockBytes * mostBlocks < n
+          long : Dec (n ≤ mostSheetBytes) → mostSheetBytes < n
           long (yes l) = absurd (true≢false (sym (length-right p q l) ∙ e))
           long (no l) = omega arith
 

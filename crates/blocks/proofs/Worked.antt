@@ -2,7 +2,7 @@
 use mathlib.Core.Path.{_≡_, refl}
 use mathlib.Core.List.{List, [], _∷_, _++_}
 use mathlib.Core.Option.{none, some}
-use Prim.Native.Nat.{ℕ, _/_, _≤_, _<_}
+use Prim.Native.Nat.{ℕ, _-_, _/_, _≤_, _<_}
 use native.Mathlib.Decide.{decLt}
 use native.Mathlib.Omega.{arith}
 use borrow.Author.Tests.{ltb-true}
@@ -11,15 +11,15 @@ use lib.ListN.{length, set, replicate, List·getD-eq-default}
 use Rattle.lists.specs.Places.{allBelow}
 use Rattle.lists.specs.First.{first}
 use Rattle.lists.proofs.TestLaws.{all-true}
-use Rattle.numbers.specs.Bytes.{byteAt, pair, Bytes}
-use Rattle.layout.specs.Limits.{blockBytes}
+use Rattle.numbers.specs.Bytes.{byteLimit, mostByte, byteAt, pair, Bytes}
+use Rattle.layout.specs.Limits.{blockBytes, contentBytes}
 use Rattle.layout.specs.Checks.{weighted, checkOf, blockRight}
 use Rattle.blocks.specs.Early.{lengthRight, early}
 use Rattle.blocks.proofs.Change.{one-byte}
 
--- byte 0 = 1, byte 509 = 255 and the rest zero
+-- 1 first, 255 last and zeros between
 abbrev pub workedContent : List ℕ
-workedContent = 1 ∷ replicate 508 0 ++ 255 ∷ []
+workedContent = 1 ∷ replicate (contentBytes - 2) 0 ++ mostByte ∷ []
 
 pub worked-check : checkOf 0 workedContent ≡ 64531
 unfolding checkOf weighted
@@ -35,10 +35,10 @@ workedSheet = workedContent ++ 0x13 ∷ 0xfc ∷ []
 
 worked-bytes : Bytes workedSheet
 unfolding allBelow
-worked-bytes j = go (decLt j 512)
+worked-bytes j = go (decLt j blockBytes)
   where
-    go : Dec (j < 512) → byteAt workedSheet j < 256
-    go (yes h) = ltb-true _ _ (all-true (λ (i : ℕ). ltb (byteAt workedSheet i) 256) 512 refl j h)
+    go : Dec (j < blockBytes) → byteAt workedSheet j < byteLimit
+    go (yes h) = ltb-true _ _ (all-true (λ (i : ℕ). ltb (byteAt workedSheet i) byteLimit) blockBytes refl j h)
     go (no h) =
         let l : length workedSheet ≤ j = omega arith in
         rw (List·getD-eq-default workedSheet 0 l) (omega arith)
@@ -47,7 +47,7 @@ pub worked-passes : early workedSheet ≡ none
 unfolding early lengthRight first blockRight checkOf weighted
 worked-passes = refl
 
-pub worked-changed : (j b : ℕ) → j < 512 → b < 256 → (b ≡ byteAt workedSheet j → ⊥) → early (set workedSheet j b) ≡ some (record { number = 2; place = 0 })
+pub worked-changed : (j b : ℕ) → j < blockBytes → b < byteLimit → (b ≡ byteAt workedSheet j → ⊥) → early (set workedSheet j b) ≡ some (record { number = 2; place = 0 })
 worked-changed j b h hb new =
     let z : j / blockBytes ≡ 0 = omega arith in
     rw z at (one-byte workedSheet worked-bytes worked-passes j b h hb new)

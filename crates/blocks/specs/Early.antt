@@ -1,4 +1,4 @@
--- Refusals 1 and 2 (document 01, "When a sheet is turned away"): the length, then the lowest block whose check is wrong.
+-- Follows the code: refusals 1 and 2 as tests, the length, then the lowest block whose check is wrong.
 use Prim.Native.Nat.{ℕ, _*_, _/_, _%_}
 use mathlib.Core.Bool.{Bool, not, _&&_}
 use mathlib.Core.List.{List}
@@ -7,13 +7,13 @@ use lib.Dec.{eqb, leb}
 use lib.ListN.{length}
 use Rattle.lists.specs.First.{_otherwise_, first}
 use Rattle.refusals.specs.declared.Refusal.{Refusal}
-use Rattle.layout.specs.Limits.{blockBytes, mostBlocks}
+use Rattle.layout.specs.Limits.{blockBytes, mostSheetBytes}
 use Rattle.layout.specs.Checks.{blockRight}
 use Rattle.refusals.specs.Said.{unless}
 
--- the length is neither zero, nor no multiple of 512, nor over 4,608
+-- some bytes, in whole blocks, and no more than the longest sheet has
 unfoldable pub lengthRight : ℕ → Bool
-lengthRight n = not (eqb n 0) && eqb (n % blockBytes) 0 && leb n (blockBytes * mostBlocks)
+lengthRight n = not (eqb n 0) && eqb (n % blockBytes) 0 && leb n mostSheetBytes
 
 -- refusal 2 at block k
 abbrev pub blockRefusal : List ℕ → ℕ → Option Refusal

@@ -2,8 +2,8 @@
 ghost use mathlib.Core.Path.{_≡_};
 ghost use Prim.Native.Nat.{_+_, _*_, _≤_, _<_, _^_};
 ghost use lib.ListN.{length};
-ghost use Rattle.numbers.specs.Bytes.{byteAt};
-ghost use Rattle.layout.specs.Limits.{contentBytes};
+ghost use Rattle.numbers.specs.Bytes.{mostByte, byteAt};
+ghost use Rattle.layout.specs.Limits.{blockBytes, contentBytes};
 ghost use Rattle.layout.specs.Checks.{checkOf, blockRight, Inside};
 ghost use Rattle.refusals.specs.Said.{saidOf};
 ghost use Rattle.blocks.specs.Block.{BlockPart};
@@ -11,21 +11,21 @@ ghost use Rattle.blocks.specs.Early.{checksRefusal, early};
 use layout::BLOCK_BYTES;
 use layout::CONTENT_BYTES;
 use layout::MODULUS;
-use layout::MOST_BLOCKS;
+use layout::MOST_SHEET_BYTES;
 use refusals::Reading;
 use refusals::Refusal;
 
 // A content byte times its weight.
 fn weighed(content: &[u8], i: usize) -> usize
     requires { ⌜ (i < length (now content)) × (i < contentBytes) ⌝ }
-    ensures { λ r. ⌜ (r ≡ (i + 1) * byteAt (now (content .entry)) i) × (r ≤ contentBytes * 255) ⌝ }
+    ensures { λ r. ⌜ (r ≡ (i + 1) * byteAt (now (content .entry)) i) × (r ≤ contentBytes * mostByte) ⌝ }
 {
     (i + 1) * (content[i] as usize)
 }
 
 // The check of block k with this content.
 fn check_of(k: usize, content: &[u8]) -> usize
-    requires { ⌜ (k < 2 ^ 55) × (length (now content) ≤ contentBytes) ⌝ }
+    requires { ⌜ (blockBytes * k < 2 ^ 64) × (length (now content) ≤ contentBytes) ⌝ }
     ensures { λ r. ⌜ r ≡ checkOf k (now (content .entry)) ⌝ }
 {
     let mut sum: usize = (k + 1) % MODULUS;
@@ -49,7 +49,7 @@ fn block_right(sheet: &[u8], k: usize) -> bool
     sum == stored
 }
 
-// A block's 510 content bytes as the very part of the sheet; an empty part where the block is not wholly inside or its check is wrong.
+// A block's content as the very part of the sheet; an empty part where the block isn't all there or fails its check.
 pub fn block(sheet: &[u8], k: usize) -> &[u8]
     ensures { λ r. ⌜ BlockPart (sheet .entry) k r ⌝ }
 {
@@ -99,7 +99,7 @@ pub fn read_blocks(sheet: &[u8]) -> Reading
             place: 0,
         });
     }
-    if BLOCK_BYTES * MOST_BLOCKS < n {
+    if MOST_SHEET_BYTES < n {
         return Reading::Refused(Refusal {
             number: 1,
             place: 0,

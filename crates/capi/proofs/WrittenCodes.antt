@@ -1,22 +1,21 @@
 -- The numbers that the script's writer gives in C tell its answers. Assumes nothing.
 use Prim.Native.Nat.{ℕ, _^_, _≤_, _<_}
 use mathlib.Core.Path.{_≡_, refl, sym, ap, _∙_}
-use mathlib.Core.Logic.{_⊎_, inl, inr}
 use mathlib.Core.List.{List}
 use mathlib.Core.Option.{Option, none, some}
 use native.Mathlib.Omega.{arith}
 use lib.ListN.{length}
 use Rattle.refusals.specs.declared.Refusal.{Refusal}
 use Rattle.layout.specs.Parts.{ruleIn}
-use Rattle.refusals.proofs.AfterLaws.{passed, stopped}
+use Rattle.refusals.proofs.AfterLaws.{passed}
 use Rattle.reading.specs.Cascade.{refusalOf}
-use Rattle.reading.proofs.Bounds.{refusal-small}
 use Rattle.cases.specs.Tallies.{unlessRefused}
 use Rattle.wording.specs.Script.{script}
 use Rattle.writer.specs.declared.Written.{Written}
 use Rattle.writer.specs.declared.Written.the-variants.{Refused}
 use Rattle.writer.specs.Writes.{enoughRoom, scriptRefusal, writtenSaid, scriptVerdict, Writes}
 use Rattle.writer.proofs.ScriptLaws.{script-short}
+use Rattle.writer.proofs.Exact.{script-small}
 use Rattle.capi.specs.Codes.{codeOf, codeSaid, ScriptCodes}
 use Rattle.capi.proofs.CodeLaws.{code-tells}
 
@@ -29,22 +28,13 @@ written-code-by none t = refl
 written-code-by (some r) t = refl
 
 module _ (s : List ℕ) where
-  -- a refusal's place is small: a node, or the bytes that a script needs
-  script-small : (n : ℕ) {r : Refusal} → scriptRefusal s n ≡ some r → (1 ≤ r .number) × (r .place ≤ enoughRoom)
-  unfolding scriptRefusal
-  script-small n {r} e = go (stopped (refusalOf s) (length (script (ruleIn s))) n 9 (length (script (ruleIn s))) e)
-    where
-      go : (refusalOf s ≡ some r) ⊎ ((refusalOf s ≡ none) × (n < length (script (ruleIn s))) × (r ≡ record { number = 9; place = length (script (ruleIn s)) })) → (1 ≤ r .number) × (r .place ≤ enoughRoom)
-      go (inl q) = let b = refusal-small s q in (b .some-number, omega (arith, b .low-place))
-      go (inr w) = rw (w .2) (omega arith, script-short s (w .0))
-
   -- the refusal, or the bytes written
   pub script-tells : {before after : List ℕ} {r : ℕ} → ScriptCodes s before r after → codeSaid r ≡ (scriptRefusal s (length before), unlessRefused (scriptRefusal s (length before)) (length (script (ruleIn s))))
   unfolding scriptRefusal
   script-tells {before} c = ap codeSaid (c .code) ∙ code-tells _ _ small answered
     where
       small : (r : Refusal) → scriptRefusal s (length before) ≡ some r → (1 ≤ r .number) × (r .place < 2 ^ 48)
-      small r e = let b = script-small (length before) e in (b .0, omega (arith, b .1))
+      small r e = let b = script-small s (length before) e in (b .some-number, omega (arith, b .low-place))
 
       answered : scriptRefusal s (length before) ≡ none → length (script (ruleIn s)) < 2 ^ 48
       answered e = omega (arith, script-short s (passed (refusalOf s) (length (script (ruleIn s))) (length before) 9 (length (script (ruleIn s))) e .0))
@@ -61,4 +51,4 @@ module _ (s : List ℕ) where
       where
         go : (o : Option Refusal) → scriptRefusal s (length before) ≡ o → scriptVerdict o (script (ruleIn s)) ≡ (some r, 0) → r .place ≤ enoughRoom
         go none q w = absurd (let z : _≡_ {A = ℕ} 0 1 = cc (ap (λ (p : Option Refusal × ℕ). p .0) w) in omega arith)
-        go (some t) q w = script-small (length before) (q ∙ ap (λ (p : Option Refusal × ℕ). p .0) w) .1
+        go (some t) q w = script-small s (length before) (q ∙ ap (λ (p : Option Refusal × ℕ). p .0) w) .low-place

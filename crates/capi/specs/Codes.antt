@@ -1,19 +1,20 @@
 -- The answers of the C interface as one number each (include/ragwashin.h).
 use Prim.Native.Nat.{ℕ, zero, suc, _+_, _*_, _/_, _%_, _^_}
 use mathlib.Core.Path.{_≡_}
-use mathlib.Core.Bool.{Bool, cond}
+use mathlib.Core.Bool.{Bool, cond, _&&_}
 use mathlib.Core.List.{List}
 use mathlib.Core.Option.{Option, none, some}
+use lib.Dec.{leb, ltb}
 use lib.IntN.{ℤ}
 use lib.ListN.{length}
 use Rattle.refusals.specs.declared.Refusal.{Refusal}
 use Rattle.meaning.specs.Cases.{firstFailure, held, failed}
-use Rattle.layout.specs.Limits.{contentBytes, nameStart, variablePlace}
-use Rattle.layout.specs.Parts.{nameSize, ruleIn}
-use Rattle.blocks.specs.Block.{blockGiven}
+use Rattle.layout.specs.Limits.{blockBytes, contentBytes, nameStart, variablePlace}
+use Rattle.layout.specs.Checks.{blockRight}
+use Rattle.layout.specs.Parts.{variableCount, nameSize, ruleIn}
 use Rattle.reading.specs.Cascade.{refusalOf}
-use Rattle.reading.specs.Name.{nameGiven}
 use Rattle.cases.specs.Checks.{tryRefusal, checkRefusal, isSome, roomAfter}
+use Rattle.cases.specs.Tallies.{unlessRefused}
 use Rattle.wording.specs.Script.{script}
 use Rattle.writer.specs.Writes.{scriptRefusal, scriptRoom}
 
@@ -38,13 +39,13 @@ codeSaid c = saidBy (c / 2 ^ 48) (c % 2 ^ 48)
 abbrev pub readCode : List ℕ → ℕ
 readCode s = codeOf (refusalOf s) 0
 
--- the name's offset in the sheet times 65,536 plus its length; 0 where the part is empty
+-- the name's offset in the sheet times 65,536 plus its length; 0 where no name is given
 abbrev pub nameCode : List ℕ → ℕ → ℕ
-nameCode s i = cond (nameGiven s i) ((variablePlace i + nameStart) * 65536 + nameSize s (variablePlace i)) 0
+nameCode s i = unlessRefused (refusalOf s) (cond (ltb i (variableCount s)) ((variablePlace i + nameStart) * 65536 + nameSize s (variablePlace i)) 0)
 
--- 510, and the part starts at 512 times k; 0 where it is empty
+-- 510, and the part starts at 512 times k; 0 where block k is not wholly inside or its check is wrong
 abbrev pub blockCode : List ℕ → ℕ → ℕ
-blockCode s k = cond (blockGiven s k) contentBytes 0
+blockCode s k = cond (leb (blockBytes * k + blockBytes) (length s) && blockRight s k) contentBytes 0
 
 -- the check: 0 where the rule holds and 1 where it fails, and the room as `check` leaves it
 abbrev pub failsCode : Bool → ℕ

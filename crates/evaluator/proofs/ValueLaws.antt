@@ -13,9 +13,10 @@ use Rattle.kinds.specs.declared.Shape.{Shape}
 use Rattle.kinds.specs.declared.Shape.the-variants.{Wrong, Bare, Valued, Named, One, Two, Three}
 use Rattle.kinds.specs.Kinds.{row}
 use Rattle.layout.specs.Limits.{mostVariables}
-use Rattle.layout.specs.Starts.{operandsOf, Listed, Placed}
+use Rattle.layout.specs.Starts.{operandsOf, VariableBelow}
 use Rattle.layout.specs.Goal.{treeAt}
 use Rattle.layout.specs.Parts.{nodeCount, variableCount, table}
+use Rattle.layout.specs.LaidOut.{Placed}
 use Rattle.layout.specs.Fold.{Found, foundBy, ofNode}
 use Rattle.layout.proofs.StartLaws.{Before, lower}
 use Rattle.layout.proofs.FoldLaws.{node-is, found-is}
@@ -49,7 +50,7 @@ module _ {s : List ℕ} {numbers : List ℤ} {n : ℕ} {r : Record} {h : Shape} 
   pub operands : Before n (operandsOf h r)
   operands = rw (at .shape-is, at .record-is) (lower placed)
 
-  pub listed : Listed h r (variableCount s)
+  pub listed : VariableBelow h r (variableCount s)
   listed = rw (at .shape-is, at .record-is) (placed .listed)
 
   -- what is asked of an operand

@@ -7,7 +7,6 @@ use Rattle.meaning.specs.declared.Sort.{Sort}
 use Rattle.meaning.specs.declared.Sort.the-variants.{Truth, Integer}
 use Rattle.meaning.specs.Value.{Of, equals, chosen}
 use Rattle.kinds.specs.declared.Kind.{Kind}
-use Rattle.kinds.specs.declared.Kind.the-variants.{Unknown, True, False, Not, And, Or, Implies, Iff, Equal, Less, AtMost, Constant, Variable, Minus, Sum, Difference, Product, If}
 use Rattle.kinds.specs.declared.Shape.{Shape}
 use Rattle.kinds.specs.declared.Shape.the-variants.{Wrong, Bare, Valued, Named, One, Two, Three}
 use Rattle.kinds.specs.Kinds.{row}
@@ -29,24 +28,24 @@ isTrue x = ltZ (pos 0) x
 
 -- the number of a node of kind k, where x, y and z are the numbers of its first, second and third operand; of a constant or a variable, x
 abbrev pub appliedOf : (k : Kind) (x y z : ℤ) → ℤ
-appliedOf Unknown x y z = pos 0
-appliedOf True x y z = pos 1
-appliedOf False x y z = pos 0
-appliedOf Not x y z = chosen (isTrue x) (pos 0) (pos 1)
-appliedOf And x y z = chosen (isTrue x) y (pos 0)
-appliedOf Or x y z = chosen (isTrue x) (pos 1) y
-appliedOf Implies x y z = chosen (isTrue x) y (pos 1)
-appliedOf Iff x y z = bit (equals x y)
-appliedOf Equal x y z = bit (equals x y)
-appliedOf Less x y z = bit (ltZ x y)
-appliedOf AtMost x y z = bit (leZ x y)
-appliedOf Constant x y z = x
-appliedOf Variable x y z = x
-appliedOf Minus x y z = negℤ x
-appliedOf Sum x y z = x +ℤ y
-appliedOf Difference x y z = x -ℤ y
-appliedOf Product x y z = x *ℤ y
-appliedOf If x y z = chosen (isTrue x) y z
+appliedOf Kind.Unknown x y z = pos 0
+appliedOf Kind.True x y z = pos 1
+appliedOf Kind.False x y z = pos 0
+appliedOf Kind.Not x y z = chosen (isTrue x) (pos 0) (pos 1)
+appliedOf Kind.And x y z = chosen (isTrue x) y (pos 0)
+appliedOf Kind.Or x y z = chosen (isTrue x) (pos 1) y
+appliedOf Kind.Implies x y z = chosen (isTrue x) y (pos 1)
+appliedOf Kind.Iff x y z = bit (equals x y)
+appliedOf Kind.Equal x y z = bit (equals x y)
+appliedOf Kind.Less x y z = bit (ltZ x y)
+appliedOf Kind.AtMost x y z = bit (leZ x y)
+appliedOf Kind.Constant x y z = x
+appliedOf Kind.Variable x y z = x
+appliedOf Kind.Minus x y z = negℤ x
+appliedOf Kind.Sum x y z = x +ℤ y
+appliedOf Kind.Difference x y z = x -ℤ y
+appliedOf Kind.Product x y z = x *ℤ y
+appliedOf Kind.If x y z = chosen (isTrue x) y z
 
 -- the same by the kind's shape, from what a node of that shape is found from; the values of variables are ρ
 abbrev pub numberBy : (ℕ → ℤ) → (h : Shape) → Kind → Found ℤ h → ℤ

@@ -1,4 +1,4 @@
--- A row of numbers whose first V are a case of an accepted sheet, the others 0.
+-- Follows the code: what is asked of a row of numbers, whose first V are a case of an accepted sheet and the others 0.
 use Prim.Native.Nat.{ℕ, _≤_}
 use mathlib.Core.Path.{_≡_}
 use mathlib.Core.List.{List}

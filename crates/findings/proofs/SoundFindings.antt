@@ -13,7 +13,7 @@ use Rattle.meaning.specs.declared.Sort.{Sort}
 use Rattle.meaning.specs.declared.Sort.the-variants.{Integer as integer}
 use Rattle.meaning.specs.Tree.{Tree, const, var, minus, sum, difference, product, ite}
 use Rattle.meaning.specs.Value.{chosen, value}
-use Rattle.kinds.specs.Rows.{by-rows}
+use Rattle.kinds.proofs.RowLaws.{by-rows}
 use Rattle.layout.specs.Fold.{ofTree}
 use Rattle.layout.proofs.Made.{found-make}
 use Rattle.findings.specs.declared.Finding.{Finding}
@@ -44,7 +44,7 @@ chosen-in {a} {b} false h k = union-in-right a k
 -- where each variable has a value in its domain
 module _ {δ : ℕ → Range} {ρ : ℕ → ℤ} (m : (i : ℕ) → In (δ i) (ρ i)) where
   pub value-in : (t : Tree integer) → In (treeRange δ t) (value ρ t)
-  unfolding ofTree by-rows findingOf value
+  unfolding ofTree findingOf value
   value-in (const z) = one-in z
   value-in (var i) = m i
   value-in (minus a) = minus-in (value-in a)
@@ -62,7 +62,7 @@ module _ {δ : ℕ → Range} (some : (i : ℕ) → δ i .low ≤ℤ δ i .high)
   range-nonempty t = in-nonempty (value-in (λ i. low-in (some i)) t)
 
   pub range-narrower : {ε : ℕ → Range} → ((i : ℕ) → Narrower (δ i) (ε i)) → (t : Tree integer) → Narrower (treeRange δ t) (treeRange ε t)
-  unfolding ofTree by-rows findingOf
+  unfolding ofTree findingOf
   range-narrower n (const z) = narrower-refl _
   range-narrower n (var i) = n i
   range-narrower n (minus a) = minus-narrower (range-narrower n a)

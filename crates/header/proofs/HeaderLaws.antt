@@ -14,8 +14,9 @@ use lib.ListN.{length}
 use Rattle.lists.specs.Places.{allBelow}
 use Rattle.lists.proofs.TestLaws.{both, and, all-true, all-of}
 use Rattle.refusals.specs.declared.Refusal.{Refusal}
-use Rattle.layout.specs.Limits.{blockBytes, contentBytes, mostVariables, nodeBytes, mostNodes, blocksFor, variablePlace, nodePlace}
-use Rattle.layout.specs.Parts.{edition, nodeCount, variableCount, usedInNodeBlock, Zeros}
+use Rattle.layout.specs.Limits.{blockBytes, contentBytes, headerGap, headerGapBytes, mostVariables, nodeBytes, mostNodes, blocksFor, variablePlace, nodePlace}
+use Rattle.layout.specs.Parts.{edition, nodeCount, variableCount}
+use Rattle.layout.specs.LaidOut.{Zeros, usedInNodeBlock}
 use Rattle.header.specs.Header.{zeros, countsRight, usedIn, tailClear, outsideClear, header, Counted}
 use Rattle.lists.proofs.BelowLaws.{all-stop}
 use Rattle.header.proofs.ZeroLaws.{zeros-at, zeros-of}
@@ -64,7 +65,7 @@ module _ (s : List ℕ) where
   used-later zero h = absurd (h refl)
   used-later (suc b) h = let e : suc b - 1 ≡ b = omega arith in rw e
 
-  pub outside-gap : zeros s 5 3 ≡ false → outsideClear s ≡ false
+  pub outside-gap : zeros s headerGap headerGapBytes ≡ false → outsideClear s ≡ false
   unfolding outsideClear
   outside-gap e = rw e
 
@@ -72,7 +73,7 @@ module _ (s : List ℕ) where
   unfolding outsideClear
   outside-tail h e = rw (all-stop (tailClear s) (blocksFor (nodeCount s) + 1) h e, and-false)
 
-  pub outside-all : zeros s 5 3 ≡ true → {n : ℕ} → allBelow (tailClear s) n ≡ true → n ≡ blocksFor (nodeCount s) + 1 → outsideClear s ≡ true
+  pub outside-all : zeros s headerGap headerGapBytes ≡ true → {n : ℕ} → allBelow (tailClear s) n ≡ true → n ≡ blocksFor (nodeCount s) + 1 → outsideClear s ≡ true
   unfolding outsideClear
   outside-all e d p = and e (ap (allBelow (tailClear s)) (sym p) ∙ d)
 
@@ -85,14 +86,14 @@ module _ (s : List ℕ) where
   unfolding tailClear
   tail-later b = rw (add-one b)
 
-  pub outside-at : outsideClear s ≡ true → Zeros s 5 3 × Tail s × Tails s
+  pub outside-at : outsideClear s ≡ true → Zeros s headerGap headerGapBytes × Tail s × Tails s
   unfolding outsideClear
   outside-at e =
       let w = both _ _ e in
       let t = all-true (tailClear s) _ (w .1) in
       (zeros-at _ _ _ (w .0), zeros-at _ _ _ (sym tail-first ∙ t 0 (omega arith)), λ b h. zeros-at _ _ _ (sym (tail-later b) ∙ t (suc b) (omega arith)))
 
-  pub outside-of : Zeros s 5 3 → Tail s → Tails s → outsideClear s ≡ true
+  pub outside-of : Zeros s headerGap headerGapBytes → Tail s → Tails s → outsideClear s ≡ true
   unfolding outsideClear
   outside-of g h t = and (zeros-of _ _ _ g) (all-of (tailClear s) _ each)
     where
@@ -110,7 +111,7 @@ pub record HeaderRight (s : List ℕ) : Type 0 where
   pub most : nodeCount s ≤ mostNodes
   pub few : variableCount s ≤ mostVariables
   pub size : length s ≡ blockBytes * (blocksFor (nodeCount s) + 1)
-  pub gap : Zeros s 5 3
+  pub gap : Zeros s headerGap headerGapBytes
   pub tail : Tail s
   pub tails : Tails s
 

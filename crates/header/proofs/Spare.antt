@@ -7,8 +7,9 @@ use mathlib.Core.List.{List}
 use native.Mathlib.Decide.{decLt}
 use native.Mathlib.Omega.{arith}
 use Rattle.numbers.specs.Bytes.{byteAt}
-use Rattle.layout.specs.Limits.{blockBytes, contentBytes, mostVariables, nodeBytes, nodesInBlock, blocksFor, variablePlace, nodePlace}
-use Rattle.layout.specs.Parts.{nodeCount, variableCount, usedInNodeBlock, Zeros}
+use Rattle.layout.specs.Limits.{blockBytes, contentBytes, headerGap, headerGapBytes, variableBytes, mostVariables, nodeBytes, nodesInBlock, blocksFor, variablePlace, nodePlace}
+use Rattle.layout.specs.Parts.{nodeCount, variableCount}
+use Rattle.layout.specs.LaidOut.{Zeros, usedInNodeBlock}
 use Rattle.header.specs.Header.{zeros, tailClear, outsideClear}
 use Rattle.header.specs.MustBeZero.{MustBeZero, header-bytes, variable-record, past-variables, node-record, past-nodes}
 use Rattle.lists.proofs.BelowLaws.{not-both, Lowest, lowest-of}
@@ -20,16 +21,16 @@ module _ (v n : ℕ) where
   abbrev usedOf : ℕ → ℕ
   usedOf b = nodeBytes * min nodesInBlock (n - nodesInBlock * b)
 
-  pub gap-listed : (j : ℕ) → j < 3 → MustBeZero v n (5 + j)
-  gap-listed j h = header-bytes (5 + j) (omega arith) (omega arith)
+  pub gap-listed : (j : ℕ) → j < headerGapBytes → MustBeZero v n (headerGap + j)
+  gap-listed j h = header-bytes (headerGap + j) (omega arith) (omega arith)
 
   pub tail-listed : (j : ℕ) → j < contentBytes - variablePlace v → MustBeZero v n (variablePlace v + j)
   tail-listed j h = go (decLt (variablePlace v + j) (variablePlace mostVariables))
     where
       go : Dec (variablePlace v + j < variablePlace mostVariables) → MustBeZero v n (variablePlace v + j)
       go (yes l) =
-          let p : variablePlace (v + j / 24) + j % 24 ≡ variablePlace v + j = omega arith in
-          subst (MustBeZero v n) p (variable-record (v + j / 24) (j % 24) (omega arith) (omega arith) (omega arith))
+          let p : variablePlace (v + j / variableBytes) + j % variableBytes ≡ variablePlace v + j = omega arith in
+          subst (MustBeZero v n) p (variable-record (v + j / variableBytes) (j % variableBytes) (omega arith) (omega arith) (omega arith))
       go (no l) = past-variables (variablePlace v + j) (omega arith) (omega arith)
 
   pub tails-listed : (b j : ℕ) → b < blocksFor n → j < contentBytes - usedOf b → MustBeZero v n (blockBytes * (b + 1) + usedOf b + j)
@@ -38,9 +39,9 @@ module _ (v n : ℕ) where
       go : Dec (usedOf b + j < nodeBytes * nodesInBlock) → MustBeZero v n (blockBytes * (b + 1) + usedOf b + j)
       go (yes w) =
           let q : ℕ = usedOf b + j in
-          let m : ℕ = nodesInBlock * b + q / 16 in
-          let p : nodePlace m + q % 16 ≡ blockBytes * (b + 1) + usedOf b + j = omega arith in
-          subst (MustBeZero v n) p (node-record m (q % 16) (omega arith) (omega arith) (omega arith))
+          let m : ℕ = nodesInBlock * b + q / nodeBytes in
+          let p : nodePlace m + q % nodeBytes ≡ blockBytes * (b + 1) + usedOf b + j = omega arith in
+          subst (MustBeZero v n) p (node-record m (q % nodeBytes) (omega arith) (omega arith) (omega arith))
       go (no w) =
           let p : blockBytes * (b + 1) + (usedOf b + j) ≡ blockBytes * (b + 1) + usedOf b + j = omega arith in
           subst (MustBeZero v n) p (past-nodes (b + 1) (usedOf b + j) (omega arith) (omega arith) (omega arith) (omega arith))
@@ -50,11 +51,11 @@ module _ (s : List ℕ) where
   abbrev pub ListedZero : Type 0
   ListedZero = (j : ℕ) → MustBeZero (variableCount s) (nodeCount s) j → byteAt s j ≡ 0
 
-  pub listed-zero : variableCount s ≤ mostVariables → Zeros s 5 3 × Tail s × Tails s → ListedZero
+  pub listed-zero : variableCount s ≤ mostVariables → Zeros s headerGap headerGapBytes × Tail s × Tails s → ListedZero
   listed-zero few h p (header-bytes j a b) = zero-within s _ _ (h .0) p (omega arith) (omega arith)
   listed-zero few h p (variable-record i b u l r) = zero-within s _ _ (h .1) p (omega arith) (omega arith)
   listed-zero few h p (past-variables j a b) = zero-within s _ _ (h .1) p (omega arith) (omega arith)
-  listed-zero few h p (node-record m b u l r) = zero-within s _ _ (h .2 (m / 31) (omega arith)) p (omega arith) (omega arith)
+  listed-zero few h p (node-record m b u l r) = zero-within s _ _ (h .2 (m / nodesInBlock) (omega arith)) p (omega arith) (omega arith)
   listed-zero few h p (past-nodes k b u l r o) = zero-within s _ _ (h .2 (k - 1) (omega arith)) p (omega arith) (omega arith)
 
   -- a listed byte that is not zero
@@ -67,10 +68,10 @@ module _ (s : List ℕ) where
   unfolding outsideClear
   spoilt-of e = ⊎-elim in-gap (λ d. in-tail (lowest-of (tailClear s) _ (d .1))) (not-both _ _ e)
     where
-      in-gap : zeros s 5 3 ≡ false → Spoilt
+      in-gap : zeros s headerGap headerGapBytes ≡ false → Spoilt
       in-gap d =
-          let w = not-zero-of s 5 3 d in
-          record { place = 5 + w .number; listed = gap-listed _ _ _ (w .below); not-zero = w .not-zero }
+          let w = not-zero-of s headerGap headerGapBytes d in
+          record { place = headerGap + w .number; listed = gap-listed _ _ _ (w .below); not-zero = w .not-zero }
 
       at-block : (k : ℕ) → k < blocksFor (nodeCount s) + 1 → tailClear s k ≡ false → Spoilt
       at-block zero h d =

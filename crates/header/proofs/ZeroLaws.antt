@@ -7,7 +7,7 @@ use native.Mathlib.Omega.{arith}
 use borrow.Author.Tests.{eq-eqb, ne-eqb, eqb-true, eqb-false}
 use Rattle.lists.proofs.TestLaws.{all-true, all-of}
 use Rattle.numbers.specs.Bytes.{byteAt}
-use Rattle.layout.specs.Parts.{Zeros}
+use Rattle.layout.specs.LaidOut.{Zeros}
 use Rattle.header.specs.Header.{zeros}
 use Rattle.lists.proofs.BelowLaws.{all-pass, all-stop, lowest-of}
 

@@ -1,4 +1,4 @@
--- Refusals 3 and 4 (document 01, "When a sheet is turned away"): the edition, then the counts, the length and the bytes outside the records.
+-- Follows the code: refusals 3 and 4 as tests, the edition, then the counts, the length and the bytes outside the records.
 use Prim.Native.Nat.{ℕ, zero, suc, _+_, _-_, _*_, _≤_}
 use mathlib.Core.Path.{_≡_}
 use mathlib.Core.Bool.{Bool, _&&_}
@@ -10,15 +10,16 @@ use Rattle.lists.specs.Places.{allBelow}
 use Rattle.lists.specs.First.{_otherwise_}
 use Rattle.refusals.specs.declared.Refusal.{Refusal}
 use Rattle.numbers.specs.Bytes.{byteAt}
-use Rattle.layout.specs.Limits.{blockBytes, contentBytes, mostVariables, mostNodes, blocksFor, variablePlace}
-use Rattle.layout.specs.Parts.{edition, nodeCount, variableCount, usedInNodeBlock}
+use Rattle.layout.specs.Limits.{blockBytes, contentBytes, headerGap, headerGapBytes, mostVariables, mostNodes, blocksFor, variablePlace}
+use Rattle.layout.specs.Parts.{edition, nodeCount, variableCount}
+use Rattle.layout.specs.LaidOut.{usedInNodeBlock}
 use Rattle.refusals.specs.Said.{unless}
 
 -- the n bytes from i on are zero
 unfoldable pub zeros : List ℕ → ℕ → ℕ → Bool
 zeros s i n = allBelow (λ j. eqb (byteAt s (i + j)) 0) n
 
--- N is 1 to 248, V at most 16, and the length is that of block 0 and the blocks that N nodes take
+-- N and V are within their limits, and the length is that of block 0 and the blocks that N nodes take
 unfoldable pub countsRight : List ℕ → Bool
 countsRight s = leb 1 (nodeCount s) && leb (nodeCount s) mostNodes && leb (variableCount s) mostVariables && eqb (length s) (blockBytes * (blocksFor (nodeCount s) + 1))
 
@@ -31,14 +32,14 @@ usedIn s (suc b) = usedInNodeBlock s b
 unfoldable pub tailClear : List ℕ → ℕ → Bool
 tailClear s k = zeros s (blockBytes * k + usedIn s k) (contentBytes - usedIn s k)
 
--- the bytes outside the records are zero: 5 to 7, and the tail of every block
+-- the bytes outside the records are zero: those behind the counts, and the tail of every block
 unfoldable pub outsideClear : List ℕ → Bool
-outsideClear s = zeros s 5 3 && allBelow (tailClear s) (blocksFor (nodeCount s) + 1)
+outsideClear s = zeros s headerGap headerGapBytes && allBelow (tailClear s) (blocksFor (nodeCount s) + 1)
 
 unfoldable pub header : List ℕ → Option Refusal
 header s = unless (eqb (edition s) 1) 3 0 otherwise unless (countsRight s && outsideClear s) 4 0
 
--- what the counts and the length must keep, in propositions: then every record lies inside
+-- the counts and the length in propositions, for contracts: then every record lies inside
 pub record Counted (s : List ℕ) : Type 0 where
   pub some-node : 1 ≤ nodeCount s
   pub most : nodeCount s ≤ mostNodes

@@ -8,12 +8,17 @@ ghost use Rattle.refusals.specs.Said.{saidOf};
 ghost use Rattle.header.specs.Header.{zeros, countsRight, usedIn, tailClear, outsideClear, header};
 use layout::BLOCK_BYTES;
 use layout::CONTENT_BYTES;
+use layout::EDITION_OFFSET;
 use layout::HEADER_BYTES;
+use layout::HEADER_GAP;
+use layout::HEADER_GAP_BYTES;
 use layout::MOST_NODES;
 use layout::MOST_VARIABLES;
 use layout::NODE_BYTES;
+use layout::NODE_COUNT_OFFSET;
 use layout::NODES_IN_BLOCK;
 use layout::VARIABLE_BYTES;
+use layout::VARIABLE_COUNT_OFFSET;
 use refusals::Reading;
 use refusals::Refusal;
 
@@ -22,7 +27,7 @@ pub fn node_count(sheet: &[u8]) -> usize
     requires { ⌜ blockBytes ≤ length (now sheet) ⌝ }
     ensures { λ r. ⌜ r ≡ nodeCount (now (sheet .entry)) ⌝ }
 {
-    numbers::u16_at(sheet, 2) as usize
+    numbers::u16_at(sheet, NODE_COUNT_OFFSET) as usize
 }
 
 // V, the number of variables.
@@ -30,7 +35,7 @@ pub fn variable_count(sheet: &[u8]) -> usize
     requires { ⌜ blockBytes ≤ length (now sheet) ⌝ }
     ensures { λ r. ⌜ r ≡ variableCount (now (sheet .entry)) ⌝ }
 {
-    numbers::byte_at(sheet, 4) as usize
+    numbers::byte_at(sheet, VARIABLE_COUNT_OFFSET) as usize
 }
 
 // Whether n bytes from a place on are zero.
@@ -100,7 +105,7 @@ fn outside_clear(sheet: &[u8]) -> bool
     requires { ⌜ (length (now sheet) ≡ blockBytes * (blocksFor (nodeCount (now sheet)) + 1)) × (variableCount (now sheet) ≤ mostVariables) × (nodeCount (now sheet) ≤ mostNodes) ⌝ }
     ensures { λ r. ⌜ r ≡ outsideClear (now (sheet .entry)) ⌝ }
 {
-    if !clear(sheet, 5, 3) {
+    if !clear(sheet, HEADER_GAP, HEADER_GAP_BYTES) {
         return false;
     }
     let n = sheet.len() / BLOCK_BYTES;
@@ -119,7 +124,7 @@ pub fn read_header(sheet: &[u8]) -> Reading
     requires { ⌜ blockBytes ≤ length (now sheet) ⌝ }
     ensures { λ r. ⌜ saidOf r ≡ header (now (sheet .entry)) ⌝ }
 {
-    if numbers::u16_at(sheet, 0) != 1 {
+    if numbers::u16_at(sheet, EDITION_OFFSET) != 1 {
         return Reading::Refused(Refusal {
             number: 3,
             place: 0,

@@ -1,48 +1,75 @@
--- The kind table of document 01, "Node kinds and their script text": for each kind its number, the fields that its record uses with the
--- sorts of its operands, and the sort that it gives. Everything else about kinds consults this table.
+-- The kind table of document 01, "Node kinds and their script text", a row for each kind. Everything else about kinds consults this table.
+use lib.IntN.{ℤ}
 use Prim.Native.Nat.{ℕ}
+use Prim.Native.String.{String}
 use mathlib.Core.Bool.{cond}
 use mathlib.Core.List.{List, [], _∷_}
 use lib.Dec.{eqb}
+use Rattle.lists.specs.Ascii.{ascii}
 use Rattle.meaning.specs.declared.Sort.{Sort}
 use Rattle.meaning.specs.declared.Sort.the-variants.{Truth, Integer}
+use Rattle.meaning.specs.Tree.{Tree}
 use Rattle.kinds.specs.declared.Kind.{Kind}
-use Rattle.kinds.specs.declared.Kind.the-variants.{Unknown, True, False, Not, And, Or, Implies, Iff, Equal, Less, AtMost, Constant, Variable, Minus, Sum, Difference, Product, If}
 use Rattle.kinds.specs.declared.Shape.{Shape}
 use Rattle.kinds.specs.declared.Shape.the-variants.{Wrong, Bare, Valued, Named, One, Two, Three}
 
-pub record Row : Type 0 where
+-- what a node of a shape is made of: a constant, a variable's number, or operands
+abbrev pub Args : Shape → Type 0
+Args Wrong = Unit {0}
+Args Bare = Unit {0}
+Args Valued = ℤ
+Args Named = ℕ
+Args (One s) = Tree s
+Args (Two s t) = Tree s × Tree t
+Args (Three s t u) = Tree s × Tree t × Tree u
+
+-- a kind's number; the fields that its record uses, with the sorts of its operands; the sort that it gives; its tree from what it is made of; and
+-- the word of its text: behind the opening parenthesis, or the whole text of a bare one
+pub record KindRow : Type 0 where
   pub byte : ℕ
   pub shape : Shape
   pub gives : Sort
+  pub tree : Args shape → Tree gives
+  pub word : List ℕ
 
-abbrev pub row : Kind → Row
-row Unknown = record { byte = 0; shape = Wrong; gives = Truth }
-row True = record { byte = 1; shape = Bare; gives = Truth }
-row False = record { byte = 2; shape = Bare; gives = Truth }
-row Not = record { byte = 3; shape = One Truth; gives = Truth }
-row And = record { byte = 4; shape = Two Truth Truth; gives = Truth }
-row Or = record { byte = 5; shape = Two Truth Truth; gives = Truth }
-row Implies = record { byte = 6; shape = Two Truth Truth; gives = Truth }
-row Iff = record { byte = 7; shape = Two Truth Truth; gives = Truth }
-row Equal = record { byte = 8; shape = Two Integer Integer; gives = Truth }
-row Less = record { byte = 9; shape = Two Integer Integer; gives = Truth }
-row AtMost = record { byte = 10; shape = Two Integer Integer; gives = Truth }
-row Constant = record { byte = 16; shape = Valued; gives = Integer }
-row Variable = record { byte = 17; shape = Named; gives = Integer }
-row Minus = record { byte = 18; shape = One Integer; gives = Integer }
-row Sum = record { byte = 19; shape = Two Integer Integer; gives = Integer }
-row Difference = record { byte = 20; shape = Two Integer Integer; gives = Integer }
-row Product = record { byte = 21; shape = Two Integer Integer; gives = Integer }
-row If = record { byte = 22; shape = Three Truth Integer Integer; gives = Integer }
+abbrev entry : ℕ → (h : Shape) (s : Sort) → (Args h → Tree s) → String → KindRow
+entry b h s t w = record { byte = b; shape = h; gives = s; tree = t; word = ascii w }
+
+-- a tree of two operands, or of three
+abbrev two : {s t u : Sort} → (Tree s → Tree t → Tree u) → Tree s × Tree t → Tree u
+two f x = f (x .0) (x .1)
+
+abbrev three : {s t u v : Sort} → (Tree s → Tree t → Tree u → Tree v) → Tree s × Tree t × Tree u → Tree v
+three f x = f (x .0) (x .1) (x .2)
+
+-- the table; of no kind, false stands for the tree
+abbrev pub row : Kind → KindRow
+row Kind.Unknown = entry 0 Wrong Truth (λ x. Tree.fls) ""
+row Kind.True = entry 1 Bare Truth (λ x. Tree.tru) "true"
+row Kind.False = entry 2 Bare Truth (λ x. Tree.fls) "false"
+row Kind.Not = entry 3 (One Truth) Truth Tree.neg "not"
+row Kind.And = entry 4 (Two Truth Truth) Truth (two Tree.conj) "and"
+row Kind.Or = entry 5 (Two Truth Truth) Truth (two Tree.disj) "or"
+row Kind.Implies = entry 6 (Two Truth Truth) Truth (two Tree.implies) "=>"
+row Kind.Iff = entry 7 (Two Truth Truth) Truth (two Tree.iff) "="
+row Kind.Equal = entry 8 (Two Integer Integer) Truth (two Tree.equal) "="
+row Kind.Less = entry 9 (Two Integer Integer) Truth (two Tree.less) "bvslt"
+row Kind.AtMost = entry 10 (Two Integer Integer) Truth (two Tree.atMost) "bvsle"
+row Kind.Constant = entry 16 Valued Integer Tree.const ""
+row Kind.Variable = entry 17 Named Integer Tree.var ""
+row Kind.Minus = entry 18 (One Integer) Integer Tree.minus "bvneg"
+row Kind.Sum = entry 19 (Two Integer Integer) Integer (two Tree.sum) "bvadd"
+row Kind.Difference = entry 20 (Two Integer Integer) Integer (two Tree.difference) "bvsub"
+row Kind.Product = entry 21 (Two Integer Integer) Integer (two Tree.product) "bvmul"
+row Kind.If = entry 22 (Three Truth Integer Integer) Integer (three Tree.ite) "ite"
 
 -- all kinds of the table
 abbrev pub kinds : List Kind
-kinds = True ∷ False ∷ Not ∷ And ∷ Or ∷ Implies ∷ Iff ∷ Equal ∷ Less ∷ AtMost ∷ Constant ∷ Variable ∷ Minus ∷ Sum ∷ Difference ∷ Product ∷ If ∷ []
+kinds = Kind.True ∷ Kind.False ∷ Kind.Not ∷ Kind.And ∷ Kind.Or ∷ Kind.Implies ∷ Kind.Iff ∷ Kind.Equal ∷ Kind.Less ∷ Kind.AtMost ∷ Kind.Constant ∷ Kind.Variable ∷ Kind.Minus ∷ Kind.Sum ∷ Kind.Difference ∷ Kind.Product ∷ Kind.If ∷ []
 
 -- the first of these kinds that the byte names, and Unknown where none does
 unfoldable pub find : List Kind → ℕ → Kind
-find [] k = Unknown
+find [] k = Kind.Unknown
 find (x ∷ xs) k = cond (eqb k (row x .byte)) x (find xs k)
 
 unfoldable pub kindOf : ℕ → Kind

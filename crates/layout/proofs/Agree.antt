@@ -1,6 +1,6 @@
 -- Two sheets that are laid out right, with the same goal over the same domains, agree at every byte that says nothing of names. Assumes nothing.
 use Prim.Native.Nat.{ℕ, suc, _+_, _-_, _*_, _/_, _≤_, _<_}
-use mathlib.Core.Path.{_≡_, sym, ap, _∙_}
+use mathlib.Core.Path.{_≡_, refl, sym, ap, subst, _∙_}
 use mathlib.Core.List.{List, _++_}
 use native.Mathlib.Numerals.{add-one}
 use native.Mathlib.Decide.{decLt}
@@ -15,10 +15,11 @@ use Rattle.numbers.specs.Bytes.{byteAt, u16At, i16At, pair}
 use Rattle.numbers.proofs.Bytes16.{word-parts, u16-lt, enc16-dec16}
 use Rattle.meaning.specs.Rule.{Variable, Rule, domainOf}
 use Rattle.kinds.specs.declared.Record.{Record}
-use Rattle.layout.specs.Limits.{blockBytes, contentBytes, headerBytes, variableBytes, blocksFor, variablePlace}
+use Rattle.layout.specs.Limits.{blockBytes, contentBytes, editionOffset, nodeCountOffset, headerBytes, variableBytes, maxOffset, nameSizeOffset, zeroOffset, nameStart, mostNameBytes, nameEnd, blocksFor, variablePlace}
 use Rattle.layout.specs.Checks.{checkOf, content, sealed}
 use Rattle.layout.specs.Nodes.{nodesOf}
-use Rattle.layout.specs.Parts.{nodeCount, variableCount, variableAt, table, ruleIn, Zeros, VariableLaidOut, LaidOut, Nameless}
+use Rattle.layout.specs.Parts.{nodeCount, variableCount, variableAt, nameSize, table, ruleIn, OnNames, name-length, name-bytes, check-bytes, Nameless}
+use Rattle.layout.specs.LaidOut.{Zeros, VariableLaidOut, LaidOut}
 use Rattle.layout.specs.Sheet.{nodeContent}
 use Rattle.layout.proofs.PartLaws.{words, variable-total, variable-is}
 use Rattle.layout.proofs.Forward.{records-are}
@@ -31,13 +32,40 @@ pub record Alike (r q : Rule) : Type 0 where
   pub count : length (r .variables) ≡ length (q .variables)
   pub domains : (i : ℕ) → domainOf r i ≡ domainOf q i
 
--- the last two bytes of a variable's record are zero
-ends : (s : List ℕ) (i : ℕ) → VariableLaidOut s i → Zeros s (i + 22) 2
+-- the last bytes of a variable's record are zero
+ends : (s : List ℕ) (i : ℕ) → VariableLaidOut s i → Zeros s (i + nameEnd) (variableBytes - nameEnd)
 ends s i v j h =
     let d = v .short in
-    let n : ℕ = byteAt s (i + 4) in
-    let e : i + 6 + n + (16 - n + j) ≡ i + 22 + j = omega arith in
-    rw e at (v .rest (16 - n + j) (omega arith))
+    let n : ℕ = nameSize s i in
+    let e : i + nameStart + n + (mostNameBytes - n + j) ≡ i + nameEnd + j = omega arith in
+    rw e at (v .rest (mostNameBytes - n + j) (omega arith))
+
+-- where a byte that doesn't hang on names isn't
+module _ {v j : ℕ} (n : Nameless v j) where
+  no-size : {i : ℕ} → i < v → j ≡ variablePlace i + nameSizeOffset → ⊥
+  no-size {i} h e = n (subst (OnNames v) (sym e) (name-length i h))
+
+  past-name : {i : ℕ} → i < v → variablePlace i + nameStart ≤ j → variablePlace i + nameEnd ≤ j
+  past-name {i} h l = by (decLt j (variablePlace i + nameEnd))
+    where
+      by : Dec (j < variablePlace i + nameEnd) → variablePlace i + nameEnd ≤ j
+      by (yes d) =
+          let start : ℕ = variablePlace i + nameStart in
+          let e : start + (j - start) ≡ j = omega arith in
+          absurd (n (subst (OnNames v) e (name-bytes i (j - start) h (omega arith))))
+      by (no d) = omega arith
+
+  past-check : contentBytes ≤ j → blockBytes ≤ j
+  past-check l = elim (decLt j blockBytes) [ yes d ↦ absurd (n (check-bytes j l d)) | no d ↦ omega arith ]
+
+-- a byte of a domain is such a byte
+pub domain-nameless : (v i b : ℕ) → b < nameSizeOffset → Nameless v (variablePlace i + b)
+domain-nameless v i b l o = nowhere o refl
+  where
+    nowhere : {j : ℕ} → OnNames v j → j ≡ variablePlace i + b → ⊥
+    nowhere (name-length k h) e = omega arith
+    nowhere (name-bytes k c h m) e = omega arith
+    nowhere (check-bytes j m h) e = omega arith
 
 -- the blocks after the first
 after-first : (s : List ℕ) → LaidOut s → drop blockBytes s ≡ sealed 1 (from (content s) 1 (blocksFor (nodeCount s)))
@@ -102,7 +130,7 @@ module _ (s t : List ℕ) (p : LaidOut s) (q : LaidOut t) (alike : Alike (ruleIn
   zeros a b = record { each = λ j h. a j h ∙ sym (b j h) }
 
   front : Agree 0 headerBytes
-  front = join (join (join (word 0 (p .first-edition ∙ sym (q .first-edition))) (word 2 nodes)) (one variables)) (zeros (p .gap) (q .gap))
+  front = join (join (join (word editionOffset (p .first-edition ∙ sym (q .first-edition))) (word nodeCountOffset nodes)) (one variables)) (zeros (p .gap) (q .gap))
 
   -- in the record of variable i: the domain, the zero byte and the last two
   module _ (i : ℕ) (h : i < variableCount s) where
@@ -115,22 +143,22 @@ module _ (s t : List ℕ) (p : LaidOut s) (q : LaidOut t) (alike : Alike (ruleIn
     domains : variableAt s i .domain ≡ variableAt t i .domain
     domains = sym (ap (λ (v : Variable). v .domain) (variable-is s i h)) ∙ alike .domains i ∙ ap (λ (v : Variable). v .domain) (variable-is t i other)
 
-    domain-agrees : Agree place 4
-    domain-agrees = join (signed place (ap (λ (d : Range). d .low) domains)) (signed (place + 2) (ap (λ (d : Range). d .high) domains))
+    domain-agrees : Agree place nameSizeOffset
+    domain-agrees = join (signed place (ap (λ (d : Range). d .low) domains)) (signed (place + maxOffset) (ap (λ (d : Range). d .high) domains))
 
-    gap-agrees : Agree (place + 5) 1
+    gap-agrees : Agree (place + zeroOffset) 1
     gap-agrees = one (p .variables i h .gap ∙ sym (q .variables i other .gap))
 
-    end-agrees : Agree (place + 22) 2
+    end-agrees : Agree (place + nameEnd) (variableBytes - nameEnd)
     end-agrees = zeros (ends s place (p .variables i h)) (ends t place (q .variables i other))
 
     in-record : {j : ℕ} → place ≤ j → j < place + variableBytes → Nameless (variableCount s) j → byteAt s j ≡ byteAt t j
-    in-record {j} l m n = by (decLt j (place + 4)) (decLt j (place + 6))
+    in-record {j} l m n = by (decLt j (place + nameSizeOffset)) (decLt j (place + nameStart))
       where
-        by : Dec (j < place + 4) → Dec (j < place + 6) → byteAt s j ≡ byteAt t j
+        by : Dec (j < place + nameSizeOffset) → Dec (j < place + nameStart) → byteAt s j ≡ byteAt t j
         by (yes a) b = reach domain-agrees l a
-        by (no a) (yes b) = let z = n .size i h in reach gap-agrees (omega arith) (omega arith)
-        by (no a) (no b) = reach end-agrees (n .name i h (omega arith)) (omega arith)
+        by (no a) (yes b) = let z = no-size n h in reach gap-agrees (omega arith) (omega arith)
+        by (no a) (no b) = reach end-agrees (past-name n h (omega arith)) (omega arith)
 
   pub agrees : (j : ℕ) → Nameless (variableCount s) j → byteAt s j ≡ byteAt t j
   agrees j n = by (decLt j headerBytes) (decLt j (variablePlace (variableCount s))) (decLt j contentBytes)
@@ -147,4 +175,4 @@ module _ (s t : List ℕ) (p : LaidOut s) (q : LaidOut t) (alike : Alike (ruleIn
       by (yes a) b c = reach front (omega arith) a
       by (no a) (yes b) c = in-record ((j - headerBytes) / variableBytes) (omega arith) (omega arith) (omega arith) n
       by (no a) (no b) (yes c) = reach tail (omega arith) (omega arith)
-      by (no a) (no b) (no c) = far (n .check (omega arith))
+      by (no a) (no b) (no c) = far (past-check n (omega arith))

@@ -15,13 +15,15 @@ use Rattle.kinds.specs.declared.Kind.{Kind}
 use Rattle.kinds.specs.declared.Record.{Record}
 use Rattle.kinds.specs.declared.Shape.{Shape}
 use Rattle.kinds.specs.declared.Shape.the-variants.{Wrong, Bare, Valued, Named, One, Two, Three}
-use Rattle.kinds.specs.Kinds.{row}
-use Rattle.kinds.specs.Rows.{Args, make, Known, Each, by-rows}
-use Rattle.layout.specs.Starts.{sortAt, operandsOf, sortsOf, unusedOf, startBy, startAt, Ordered, Sorted, Listed, Placed, Typed}
-use Rattle.layout.specs.Goal.{SomeTree, recast, ofSort, argsOf, treeAt, goalOf, Sound}
+use Rattle.kinds.specs.Kinds.{Args, row}
+use Rattle.kinds.specs.Rows.{make, Known, SomeTree}
+use Rattle.kinds.proofs.RowLaws.{Each, by-rows}
+use Rattle.layout.specs.Starts.{sortAt, operandsOf, sortsOf, startBy, startAt, Ordered, Sorted, VariableBelow, Typed}
+use Rattle.layout.specs.Goal.{recast, ofSort, argsOf, treeAt, goalOf}
+use Rattle.layout.specs.LaidOut.{unusedOf, Placed, Sound}
 use Rattle.layout.specs.Nodes.{node, listing, nodesOf}
 use Rattle.layout.specs.WellFormed.{Fine}
-use Rattle.layout.proofs.Made.{listMade, FineMade, listing-make, fine-make}
+use Rattle.layout.proofs.Made.{listMade, FineMade, listing-make, fine-parts}
 use Rattle.layout.proofs.StartLaws.{lower, start-is}
 use Rattle.layout.proofs.GoalLaws.{tree-is, tree-sort}
 
@@ -59,7 +61,7 @@ module _ (f : ℕ → Record) (v : ℕ) where
   record Fits (h : Shape) (x : Args h) (r : Record) (i n : ℕ) : Type 0 where
     clear : unusedOf h r + r .spare ≡ 0
     ordered : Ordered (startAt f) n (operandsOf h r)
-    listed : Listed h r v
+    listed : VariableBelow h r v
     sorted : Sorted (sortAt f) (operandsOf h r) (sortsOf h)
     word : r .value < 65536
     start : startBy h r n (startAt f) ≡ i
@@ -174,7 +176,7 @@ module _ (f : ℕ → Record) (v : ℕ) where
   -- from the shape to the kind
   back : (k : Kind) → Known (row k .shape) → (x : Args (row k .shape)) → Each Claim (row k .shape) x → Claim (row k .gives) (make k x)
   back k q x all i e w run =
-      let o = root (row k .shape) k q x all i e (rw (fine-make k q x v) at w) (rw (listing-make k q x) at run) in
+      let o = root (row k .shape) k q x all i e (fine-parts v k x w) (rw (listing-make k q x) at run) in
       let n : ℕ = o .n in
       let t = o .fits in
       let d : e - 1 ≡ n = omega (arith, o .next) in

@@ -24,13 +24,15 @@ use Rattle.kinds.specs.declared.Record.{Record}
 use Rattle.kinds.specs.declared.Shape.{Shape}
 use Rattle.kinds.specs.declared.Shape.the-variants.{Wrong, Bare, Valued, Named, One, Two, Three}
 use Rattle.kinds.specs.Kinds.{row}
-use Rattle.kinds.specs.Rows.{by-rows}
+use Rattle.kinds.proofs.RowLaws.{by-rows}
+use Rattle.kinds.proofs.ClaimLaws.{Throughout}
 use Rattle.layout.specs.Limits.{mostVariables, nodesInBlock, mostNodes, blocksFor, mostBlocks, mostSheetBytes, variablePlace, nodePlace}
 use Rattle.layout.specs.Checks.{weighted, checkOf, sealed}
 use Rattle.layout.specs.Starts.{shapeAt, operandsOf, startStep, startAt}
-use Rattle.layout.specs.Goal.{treeStep, treeAt, goalOf, Sound}
-use Rattle.layout.specs.Nodes.{node, listing, nodesOf}
-use Rattle.layout.specs.Parts.{nodeCount, variableCount, table, ruleIn, LaidOut}
+use Rattle.layout.specs.Goal.{treeStep, treeAt, goalOf}
+use Rattle.layout.specs.Nodes.{node, nodesOf}
+use Rattle.layout.specs.Parts.{nodeCount, variableCount, table, ruleIn}
+use Rattle.layout.specs.LaidOut.{Sound, LaidOut}
 use Rattle.layout.specs.Sheet.{sheetOf}
 use Rattle.layout.specs.WellFormed.{FineVariable, Fine, WellFormed}
 use Rattle.layout.specs.Fold.{Found, ofTree, nodeStep, ofNode}
@@ -42,8 +44,9 @@ use Rattle.layout.proofs.Backward.{table-sound, table-goal, table-words
 use Rattle.layout.proofs.FoldLaws.{node-is, found-is, goal-found}
 use Rattle.layout.proofs.SheetLaws.{sheet-is, one-sheet}
 use Rattle.layout.proofs.SheetBack.{sheet-laid-out, sheet-shows}
-use Rattle.layout.proofs.Well.{fine-is, goal-fine, rule-well}
-use Rattle.layout.proofs.Agree.{Alike, lengths, rest, agrees}
+use Rattle.layout.proofs.Made.{throughout-fine}
+use Rattle.layout.proofs.Well.{goal-fine, rule-well}
+use Rattle.layout.proofs.Agree.{Alike, lengths, rest, agrees, domain-nameless}
 
 -- the names and the rule
 abbrev seated : List ℕ
@@ -81,15 +84,15 @@ unfolding checkOf weighted
 check-is = refl
 
 pub size-is : length sheetA ≡ 1024
-unfolding sheetOf sealed checkOf weighted listing by-rows
+unfolding sheetOf sealed checkOf weighted ofTree
 size-is = refl
 
 header-is : take 56 sheetA ≡ 1 ∷ 0 ∷ 3 ∷ 0 ∷ 2 ∷ 0 ∷ 0 ∷ 0 ∷ 0 ∷ 0 ∷ 1 ∷ 0 ∷ 6 ∷ 0 ∷ (seated ++ (replicate 12 0 ++ (0 ∷ 0 ∷ 1 ∷ 0 ∷ 7 ∷ 0 ∷ (trained ++ replicate 11 0))))
-unfolding sheetOf sealed checkOf weighted listing by-rows enc
+unfolding sheetOf sealed checkOf weighted ofTree enc
 header-is = refl
 
 nodes-are : take 48 (drop 512 sheetA) ≡ 17 ∷ (replicate 15 0 ++ (17 ∷ 0 ∷ 1 ∷ (replicate 13 0 ++ (8 ∷ 0 ∷ 0 ∷ 0 ∷ 1 ∷ replicate 11 0))))
-unfolding sheetOf sealed checkOf weighted listing by-rows
+unfolding sheetOf sealed checkOf weighted ofTree
 nodes-are = refl
 
 -- ---- it is well formed, whatever the names
@@ -110,8 +113,8 @@ fine-bit x h b = record {
 }
 
 well-over : (x y : List ℕ) → FineVariable (bit x) → FineVariable (bit y) → WellFormed (over x y)
-unfolding Fine listing by-rows
-well-over x y f g = record { few = lit≤ tt; most = lit≤ tt; variables = each; goal = (lit< tt, lit< tt) }
+unfolding Throughout by-rows ofTree
+well-over x y f g = record { few = lit≤ tt; most = lit≤ tt; variables = each; goal = throughout-fine 2 _ (tt, ((lit< tt, tt), (lit< tt, tt))) }
   where
     each : (j : ℕ) → j < 2 → FineVariable (at noVariable (bit x ∷ bit y ∷ []) j)
     each zero h = f
@@ -148,7 +151,7 @@ sound : Sound f (variableCount sheetA) (nodeCount sheetA)
 sound = laidOutA .nodes
 
 last : 2 < nodeCount sheetA
-unfolding sheetOf sealed checkOf weighted listing by-rows
+unfolding sheetOf sealed checkOf weighted ofTree
 last = lit< tt
 
 before : Before 2 (operandsOf (shapeAt (f 2)) (f 2))
@@ -171,9 +174,6 @@ records = records-are narrow sound
 
 all-nodes : length (nodesOf 0 (goalOf f (nodeCount sheetA))) ≡ nodeCount sheetA
 all-nodes = goal-size narrow sound
-
-fine-node : Fine (variableCount sheetA) (treeAt f 2 .1)
-fine-node = fine-is narrow (sound .placed) (sound .typed) 2 last
 
 fine : Fine (variableCount sheetA) (goalOf f (nodeCount sheetA))
 fine = goal-fine narrow sound
@@ -211,7 +211,7 @@ abbrev count : (k : Kind) → Found ℕ (row k .shape) → ℕ
 count k = counted (row k .shape)
 
 three : ofTree count (ruleA .goal) ≡ 3
-unfolding ofTree by-rows
+unfolding ofTree
 three = refl
 
 one-node : ofNode count 0 f 2 ≡ nodeStep count f 2 (ofNode count 0 f)
@@ -255,4 +255,4 @@ same-nodes = rest sheetA sheetB laidOutA laidOutB alike
 
 -- byte 10 is of a domain
 same-byte : byteAt sheetA 10 ≡ byteAt sheetB 10
-same-byte = agrees sheetA sheetB laidOutA laidOutB alike 10 (record { size = λ i h e. omega arith; name = λ i h e. omega arith; check = λ h. omega arith })
+same-byte = agrees sheetA sheetB laidOutA laidOutB alike 10 (domain-nameless (variableCount sheetA) 0 2 (omega arith))

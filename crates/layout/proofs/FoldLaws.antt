@@ -10,8 +10,10 @@ use Rattle.kinds.specs.declared.Record.{Record}
 use Rattle.kinds.specs.declared.Shape.{Shape}
 use Rattle.kinds.specs.declared.Shape.the-variants.{Wrong, Bare, Valued, Named, One, Two, Three}
 use Rattle.kinds.specs.Kinds.{row}
-use Rattle.layout.specs.Starts.{shapeAt, sortAt, operandsOf, sortsOf, Sorted, Placed, Typed}
-use Rattle.layout.specs.Goal.{SomeTree, ofSort, argsOf, treeAt, goalOf, Sound}
+use Rattle.kinds.specs.Rows.{SomeTree}
+use Rattle.layout.specs.Starts.{shapeAt, sortAt, operandsOf, sortsOf, Sorted, Typed}
+use Rattle.layout.specs.Goal.{ofSort, argsOf, treeAt, goalOf}
+use Rattle.layout.specs.LaidOut.{Placed, Sound}
 use Rattle.layout.specs.Fold.{Found, foundBy, ofTree, nodeStep, ofNode}
 use Rattle.layout.proofs.Made.{foundMade, found-make}
 use Rattle.layout.proofs.StartLaws.{Before, lower}

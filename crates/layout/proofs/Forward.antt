@@ -16,8 +16,9 @@ use Rattle.kinds.specs.declared.Record.{Record}
 use Rattle.kinds.specs.declared.Shape.{Shape}
 use Rattle.kinds.specs.declared.Shape.the-variants.{Wrong, Bare, Valued, Named, One, Two, Three}
 use Rattle.kinds.specs.Rows.{Known}
-use Rattle.layout.specs.Starts.{shapeAt, sortAt, operandsOf, sortsOf, unusedOf, startBy, startAt, Ordered, Sorted, Placed, Typed}
-use Rattle.layout.specs.Goal.{ofSort, argsOf, treeAt, goalOf, Sound}
+use Rattle.layout.specs.Starts.{shapeAt, sortAt, operandsOf, sortsOf, startBy, startAt, Ordered, Sorted, Typed}
+use Rattle.layout.specs.Goal.{ofSort, argsOf, treeAt, goalOf}
+use Rattle.layout.specs.LaidOut.{unusedOf, Placed, Sound}
 use Rattle.layout.specs.Nodes.{node, Listing, oneOf, twoOf, threeOf, listing, nodesOf}
 use Rattle.layout.proofs.Made.{listMade, listing-make}
 use Rattle.layout.proofs.StartLaws.{start-low, lower, start-is}

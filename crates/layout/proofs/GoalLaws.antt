@@ -10,10 +10,10 @@ use Rattle.meaning.specs.Tree.{Tree, fls}
 use Rattle.kinds.specs.declared.Record.{Record}
 use Rattle.kinds.specs.declared.Shape.{Shape}
 use Rattle.kinds.specs.declared.Shape.the-variants.{Wrong, Bare, Valued, Named, One, Two, Three}
-use Rattle.kinds.specs.Kinds.{row}
-use Rattle.kinds.specs.Rows.{Args, make}
+use Rattle.kinds.specs.Kinds.{Args, row}
+use Rattle.kinds.specs.Rows.{make, SomeTree}
 use Rattle.layout.specs.Starts.{shapeAt, sortAt, operandsOf}
-use Rattle.layout.specs.Goal.{SomeTree, recast, ofSort, argsOf, treeStep, treeAt}
+use Rattle.layout.specs.Goal.{recast, ofSort, argsOf, treeStep, treeAt}
 use Rattle.layout.proofs.StartLaws.{Before}
 
 agree : (h : Shape) (r : Record) (n : ℕ) (g k : ℕ → SomeTree) → Before n (operandsOf h r) → ((j : ℕ) → j < n → g j ≡ k j) → argsOf h r g ≡ argsOf h r k

@@ -20,9 +20,10 @@ use Rattle.kinds.specs.declared.Kind.the-variants.{Unknown}
 use Rattle.kinds.specs.declared.Record.{Record}
 use Rattle.layout.specs.Limits.{blockBytes, contentBytes, variableBytes, nodeBytes, nodesInBlock, blocksFor, variablePlace, nodePlace}
 use Rattle.layout.specs.Checks.{checkOf, content, storedCheck, blockRight, sealed}
-use Rattle.layout.specs.Goal.{goalOf, Sound}
+use Rattle.layout.specs.Goal.{goalOf}
 use Rattle.layout.specs.Nodes.{node, nodesOf}
-use Rattle.layout.specs.Parts.{nodeCount, variableCount, variableAt, table, ruleIn, Zeros, VariableLaidOut, LaidOut}
+use Rattle.layout.specs.Parts.{nodeCount, variableCount, variableAt, table, ruleIn}
+use Rattle.layout.specs.LaidOut.{Sound, Zeros, VariableLaidOut, LaidOut}
 use Rattle.layout.specs.Sheet.{recordBytes, variableRecord, filled, firstContent, nodeContent, contentsOf, sheetOf}
 use Rattle.layout.specs.WellFormed.{WellFormed}
 use Rattle.layout.proofs.Backward.{table-sound, table-goal, table-words}

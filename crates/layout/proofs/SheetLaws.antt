@@ -16,10 +16,11 @@ use Rattle.numbers.proofs.Bytes16.{u16-lt, enc16-dec16}
 use Rattle.meaning.specs.Rule.{Variable}
 use Rattle.kinds.specs.declared.Record.{Record}
 use Rattle.kinds.specs.Rows.{Known}
-use Rattle.layout.specs.Limits.{blockBytes, contentBytes, variableBytes, nameStart, nameField, nodeBytes, nodesInBlock, blocksFor, variablePlace, nodePlace}
+use Rattle.layout.specs.Limits.{blockBytes, contentBytes, editionOffset, nodeCountOffset, variableCountOffset, headerBytes, variableBytes, maxOffset, nameSizeOffset, zeroOffset, nameStart, nameField, nodeBytes, aOffset, bOffset, cOffset, valueOffset, spareStart, nodesInBlock, blocksFor, variablePlace, nodePlace}
 use Rattle.layout.specs.Checks.{content, sealed}
 use Rattle.layout.specs.Starts.{shapeAt}
-use Rattle.layout.specs.Parts.{nodeCount, variableCount, nameSize, nameIn, variableIn, variableAt, recordIn, table, ruleIn, Zeros, VariableLaidOut, LaidOut}
+use Rattle.layout.specs.Parts.{nodeCount, variableCount, nameSize, nameIn, variableIn, variableAt, recordIn, table, ruleIn}
+use Rattle.layout.specs.LaidOut.{Zeros, VariableLaidOut, LaidOut}
 use Rattle.layout.specs.Sheet.{recordBytes, variableRecord, filled, firstContent, nodeContent, contentsOf, sheetOf}
 use Rattle.kinds.proofs.KindLaws.{kind-byte}
 use Rattle.layout.proofs.PartLaws.{words}
@@ -63,26 +64,26 @@ module _ (s : List ℕ) where
         let add : (n : ℕ) → byteAt s (i + n + 1) ≡ byteAt s (i + (n + 1)) = λ n. ap (byteAt s) (add-assoc i n 1) in
         let zeros : (n : ℕ) → byteAt s (i + n) ≡ 0 → byteAt s (i + (n + 1)) ≡ 0 → Run (byteAt s) (i + n) (0 ∷ 0 ∷ []) (i + (n + 2)) = λ n p q. shift (two-bytes p (add n ∙ q)) refl (add-assoc i n 2) in
         run-append (byteAt s) (two-bytes (sym (kind-byte (byteAt s i) k)) (omega arith))
-        (run-append (byteAt s) (pair-at (i + 2) (i + 4) (omega arith))
-        (run-append (byteAt s) (pair-at (i + 4) (i + 6) (omega arith))
-        (run-append (byteAt s) (pair-at (i + 6) (i + 8) (omega arith))
-        (run-append (byteAt s) (pair-at (i + 8) (i + 10) (omega arith))
-        (run-append (byteAt s) (zeros 10 (omega arith) (omega arith))
-        (run-append (byteAt s) (zeros 12 (omega arith) (omega arith))
-        (zeros 14 (omega arith) (omega arith))))))))
+        (run-append (byteAt s) (pair-at (i + aOffset) (i + bOffset) (omega arith))
+        (run-append (byteAt s) (pair-at (i + bOffset) (i + cOffset) (omega arith))
+        (run-append (byteAt s) (pair-at (i + cOffset) (i + valueOffset) (omega arith))
+        (run-append (byteAt s) (pair-at (i + valueOffset) (i + spareStart) (omega arith))
+        (run-append (byteAt s) (zeros spareStart (omega arith) (omega arith))
+        (run-append (byteAt s) (zeros (spareStart + 2) (omega arith) (omega arith))
+        (zeros (spareStart + 4) (omega arith) (omega arith))))))))
 
     run-variable : (i : ℕ) → VariableLaidOut s i → i + variableBytes ≤ length s → Run (byteAt s) i (variableRecord (variableIn s i)) (i + variableBytes)
     run-variable i v l =
         let n : ℕ = nameSize s i in
         let h = v .short in
         let e : length (nameIn s i) ≡ n = rw (length-take, length-drop) (omega arith) in
-        let g : i + 4 + 1 ≡ i + 5 = omega arith in
-        let p : Run (byteAt s) (i + 4) (n ∷ 0 ∷ []) (i + 6) = shift (two-bytes refl (ap (byteAt s) g ∙ v .gap)) refl (omega arith) in
-        let q : Run (byteAt s) (i + 6) (nameIn s i) (i + nameStart + n) = run-part s 0 (i + 6) n (omega arith) in
+        let g : i + nameSizeOffset + 1 ≡ i + zeroOffset = omega arith in
+        let p : Run (byteAt s) (i + nameSizeOffset) (n ∷ 0 ∷ []) (i + nameStart) = shift (two-bytes refl (ap (byteAt s) g ∙ v .gap)) refl (omega arith) in
+        let q : Run (byteAt s) (i + nameStart) (nameIn s i) (i + nameStart + n) = run-part s 0 (i + nameStart) n (omega arith) in
         let r : Run (byteAt s) (i + nameStart + n) (replicate (nameField - n) 0) (i + variableBytes) = shift (run-zeros (nameField - n) (i + nameStart + n) (v .rest)) refl (omega arith) in
         rw e
-        (run-append (byteAt s) (end-at i (i + 2) refl)
-        (run-append (byteAt s) (end-at (i + 2) (i + 4) (omega arith))
+        (run-append (byteAt s) (end-at i (i + maxOffset) refl)
+        (run-append (byteAt s) (end-at (i + maxOffset) (i + nameSizeOffset) (omega arith))
         (run-append (byteAt s) p (run-append (byteAt s) q r))))
 
 module _ (s : List ℕ) (r : LaidOut s) where
@@ -93,11 +94,11 @@ module _ (s : List ℕ) (r : LaidOut s) where
       let few = r .few in
       let size = r .size in
       let vs : List Variable = ruleIn s .variables in
-      let o : Run (byteAt s) 4 (v ∷ 0 ∷ 0 ∷ 0 ∷ []) 8 = record { each = (refl, (g 0 (omega arith), (g 1 (omega arith), (g 2 (omega arith), tt)))); end = refl } in
+      let o : Run (byteAt s) variableCountOffset (v ∷ 0 ∷ 0 ∷ 0 ∷ []) headerBytes = record { each = (refl, (g 0 (omega arith), (g 1 (omega arith), (g 2 (omega arith), tt)))); end = refl } in
       let each : (j : ℕ) → 0 ≤ j → j < 0 + v → Run (byteAt s) (variablePlace j) (variableRecord (variableAt s j)) (variablePlace (suc j)) = λ j l h. shift (run-variable s (r .bytes) (variablePlace j) (r .variables j (omega arith)) (omega arith)) refl (omega arith) in
-      let all : Run (byteAt s) 8 (joined variableRecord vs) (variablePlace v) = shift (run-joined s variableRecord (variableAt s) variablePlace v 0 each) refl (omega arith) in
+      let all : Run (byteAt s) headerBytes (joined variableRecord vs) (variablePlace v) = shift (run-joined s variableRecord (variableAt s) variablePlace v 0 each) refl (omega arith) in
       run-filled s (pair 1 ++ (pair (nodeCount s) ++ ((length vs ∷ 0 ∷ 0 ∷ 0 ∷ []) ++ joined variableRecord vs))) 0 (variablePlace v)
-      (rw (length-from, zero-add) (run-append (byteAt s) (run-pair s (r .bytes) 0 1 (r .first-edition)) (run-append (byteAt s) (run-pair s (r .bytes) 2 (nodeCount s) refl) (run-append (byteAt s) o all))))
+      (rw (length-from, zero-add) (run-append (byteAt s) (run-pair s (r .bytes) editionOffset 1 (r .first-edition)) (run-append (byteAt s) (run-pair s (r .bytes) nodeCountOffset (nodeCount s) refl) (run-append (byteAt s) o all))))
       (omega arith)
       (rw zero-add (r .tail))
 

@@ -9,7 +9,8 @@ use Rattle.lists.proofs.CourseLaws.{below-last, below-other, below-is}
 use Rattle.kinds.specs.declared.Record.{Record}
 use Rattle.kinds.specs.declared.Shape.{Shape}
 use Rattle.kinds.specs.declared.Shape.the-variants.{Wrong, Bare, Valued, Named, One, Two, Three}
-use Rattle.layout.specs.Starts.{shapeAt, operandsOf, startBy, startStep, startAt, Ordered, Placed}
+use Rattle.layout.specs.Starts.{shapeAt, operandsOf, startBy, startStep, startAt, Ordered}
+use Rattle.layout.specs.LaidOut.{Placed}
 
 -- a subtree starts no later than node n where those of the operands do
 by-shape : (h : Shape) (r : Record) (n : ℕ) (g : ℕ → ℕ) → ((j : ℕ) → g j ≤ n) → startBy h r n g ≤ n

@@ -8,10 +8,10 @@ use Rattle.meaning.specs.Tree.{Tree}
 use Rattle.kinds.specs.declared.Record.{Record}
 use Rattle.kinds.specs.declared.Shape.{Shape}
 use Rattle.kinds.specs.declared.Shape.the-variants.{Wrong, Bare, Valued, Named, One, Two, Three}
-use Rattle.kinds.specs.Rows.{Throughout}
-use Rattle.kinds.proofs.ClaimLaws.{Parts, throughout-make}
-use Rattle.layout.specs.Starts.{shapeAt, sortAt, operandsOf, sortsOf, startBy, startAt, Ordered, Sorted, Placed, Typed}
-use Rattle.layout.specs.Goal.{ofSort, argsOf, treeAt, goalOf, Sound}
+use Rattle.kinds.proofs.ClaimLaws.{Throughout, Parts, throughout-make}
+use Rattle.layout.specs.Starts.{shapeAt, sortAt, operandsOf, sortsOf, startBy, startAt, Ordered, Sorted, Typed}
+use Rattle.layout.specs.Goal.{ofSort, argsOf, treeAt, goalOf}
+use Rattle.layout.specs.LaidOut.{Placed, Sound}
 use Rattle.layout.proofs.StartLaws.{Before, lower, start-is}
 use Rattle.layout.proofs.GoalLaws.{tree-is, operand-as, operand-from}
 

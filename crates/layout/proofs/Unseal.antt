@@ -19,13 +19,14 @@ use Rattle.meaning.specs.Rule.{Variable}
 use Rattle.kinds.specs.declared.Record.{Record}
 use Rattle.kinds.specs.Kinds.{kindOf}
 use Rattle.kinds.specs.Rows.{Known}
-use Rattle.layout.specs.Limits.{blockBytes, contentBytes, nameStart, nameField}
+use Rattle.layout.specs.Limits.{blockBytes, contentBytes, nameSizeOffset, zeroOffset, nameStart, nameField, nodeBytes, aOffset, bOffset, cOffset, valueOffset}
 use Rattle.layout.specs.Checks.{checkOf, storedCheck, sealed}
 use Rattle.layout.specs.Starts.{shapeAt}
-use Rattle.layout.specs.Parts.{nameSize, nameIn, variableIn, recordIn, Zeros, VariableLaidOut}
+use Rattle.layout.specs.Parts.{nameSize, nameIn, variableIn, recordIn}
+use Rattle.layout.specs.LaidOut.{Zeros, VariableLaidOut}
 use Rattle.layout.specs.Sheet.{recordBytes, variableRecord, filled}
 use Rattle.layout.specs.WellFormed.{FineVariable}
-use Rattle.kinds.proofs.KindLaws.{byte-kind}
+use Rattle.kinds.proofs.KindLaws.{byte-names}
 
 module _ (s : List ℕ) where
   pub pair-of : {i x e : ℕ} → Run (byteAt s) i (pair x) e → u16At s i ≡ x
@@ -73,7 +74,7 @@ module _ (s : List ℕ) where
 
   pub record-of : (r : Record) (i : ℕ) {e : ℕ} → Known (shapeAt r) → r .spare ≡ 0 → Run (byteAt s) i (recordBytes r) e → recordIn s i ≡ r
   record-of r i k z run =
-      let has : (j : ℕ) → j < 16 → byteAt s (i + j) ≡ getD (recordBytes r) j 0 = λ j h. stands-at (byteAt s) (recordBytes r) i (run .each) 0 j h in
+      let has : (j : ℕ) → j < nodeBytes → byteAt s (i + j) ≡ getD (recordBytes r) j 0 = λ j h. stands-at (byteAt s) (recordBytes r) i (run .each) 0 j h in
       let add : (n : ℕ) → byteAt s (i + n + 1) ≡ byteAt s (i + (n + 1)) = λ n. ap (byteAt s) (add-assoc i n 1) in
       let p₁ = has 1 (lit< tt) in
       let p₂ = has 10 (lit< tt) in
@@ -83,11 +84,11 @@ module _ (s : List ℕ) where
       let p₆ = has 14 (lit< tt) in
       let p₇ = has 15 (lit< tt) in
       let spare : recordIn s i .spare ≡ 0 = omega arith in
-      let kind = ap kindOf (run .each .0) ∙ byte-kind (r .kind) k .1 in
-      let a = u16-of s (i + 2) (r .a) (has 2 (lit< tt)) (add 2 ∙ has 3 (lit< tt)) in
-      let b = u16-of s (i + 4) (r .b) (has 4 (lit< tt)) (add 4 ∙ has 5 (lit< tt)) in
-      let c = u16-of s (i + 6) (r .c) (has 6 (lit< tt)) (add 6 ∙ has 7 (lit< tt)) in
-      let x = u16-of s (i + 8) (r .value) (has 8 (lit< tt)) (add 8 ∙ has 9 (lit< tt)) in
+      let kind = ap kindOf (run .each .0) ∙ byte-names (r .kind) in
+      let a = u16-of s (i + aOffset) (r .a) (has 2 (lit< tt)) (add 2 ∙ has 3 (lit< tt)) in
+      let b = u16-of s (i + bOffset) (r .b) (has 4 (lit< tt)) (add 4 ∙ has 5 (lit< tt)) in
+      let c = u16-of s (i + cOffset) (r .c) (has 6 (lit< tt)) (add 6 ∙ has 7 (lit< tt)) in
+      let x = u16-of s (i + valueOffset) (r .value) (has 8 (lit< tt)) (add 8 ∙ has 9 (lit< tt)) in
       let y = spare ∙ sym z in
       λ d. record { kind = kind d; a = a d; b = b d; c = c d; value = x d; spare = y d }
 
@@ -102,11 +103,11 @@ module _ (s : List ℕ) where
       let q = run-split (byteAt s) {xs = high} {ys = (n ∷ 0 ∷ []) ++ (v .name ++ z)} (p .1) in
       let o = run-split (byteAt s) {xs = n ∷ 0 ∷ []} {ys = v .name ++ z} (q .1) in
       let t = run-split (byteAt s) {xs = v .name} {ys = z} (o .1) in
-      let head : Run (byteAt s) (i + 4) (n ∷ 0 ∷ []) (i + 6) = shift (o .0) (omega arith) (omega arith) in
-      let name : Run (byteAt s) (i + 6) (v .name) (i + nameStart + n) = shift (t .0) (omega arith) (omega arith) in
+      let head : Run (byteAt s) (i + nameSizeOffset) (n ∷ 0 ∷ []) (i + nameStart) = shift (o .0) (omega arith) (omega arith) in
+      let name : Run (byteAt s) (i + nameStart) (v .name) (i + nameStart + n) = shift (t .0) (omega arith) (omega arith) in
       let rest : Run (byteAt s) (i + nameStart + n) z e = shift (t .1) (omega arith) refl in
       let en : nameSize s i ≡ n = head .each .0 in
-      let next : i + 5 ≡ suc (i + 4) = omega arith in
+      let next : i + zeroOffset ≡ suc (i + nameSizeOffset) = omega arith in
       let a = ap (dec 16) (pair-of (p .0)) ∙ dec16-enc16 (f .ends .low) in
       let b = ap (dec 16) (pair-of (q .0)) ∙ dec16-enc16 (f .ends .high) in
       let c : nameIn s i ≡ v .name = rw en (part-is s 0 name (omega (arith, rest .end))) in (

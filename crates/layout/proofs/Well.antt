@@ -5,53 +5,41 @@ use mathlib.Core.List.{List}
 use native.Mathlib.Omega.{arith}
 use lib.ListN.{drop, length-take}
 use Rattle.numbers.proofs.Bytes16.{i16-narrow, dec16-narrow}
-use Rattle.meaning.specs.declared.Sort.{Sort}
 use Rattle.kinds.specs.declared.Record.{Record}
 use Rattle.kinds.specs.declared.Shape.{Shape}
 use Rattle.kinds.specs.declared.Shape.the-variants.{Wrong, Bare, Valued, Named, One, Two, Three}
-use Rattle.layout.specs.Limits.{variablePlace}
-use Rattle.layout.specs.Starts.{shapeAt, sortAt, operandsOf, sortsOf, Sorted, Listed, Placed, Typed}
-use Rattle.layout.specs.Goal.{ofSort, argsOf, treeAt, goalOf, Sound}
-use Rattle.layout.specs.Parts.{variableCount, nameSize, variableAt, ruleIn, LaidOut}
+use Rattle.layout.specs.Limits.{maxOffset, nameStart, variablePlace}
+use Rattle.layout.specs.Starts.{shapeAt, VariableBelow}
+use Rattle.layout.specs.Goal.{argsOf, treeAt, goalOf}
+use Rattle.layout.specs.Parts.{variableCount, nameSize, variableAt, ruleIn}
+use Rattle.layout.specs.LaidOut.{Sound, LaidOut}
 use Rattle.layout.specs.WellFormed.{FineVariable, Fine, WellFormed}
-use Rattle.layout.proofs.Made.{FineMade, fine-make}
-use Rattle.layout.proofs.StartLaws.{Before, lower}
-use Rattle.layout.proofs.GoalLaws.{tree-is, operand-as}
+use Rattle.layout.proofs.Made.{foundMade, found-make, leafBy, leafStep, FineLeaf, FineHere, throughout-fine}
+use Rattle.layout.proofs.StartLaws.{lower}
+use Rattle.layout.proofs.GoalLaws.{tree-is}
+use Rattle.layout.proofs.ThroughoutLaws.{goal-throughout}
 use Rattle.layout.proofs.Forward.{goal-size}
 use Rattle.layout.proofs.PartLaws.{words, variable-total, variable-is}
 use Rattle.layout.proofs.Written.{bytes-take, bytes-drop}
 
 -- ---- the trees of a table
-module _ {f : ℕ → Record} {v N : ℕ} (words : (j : ℕ) → f j .value < 65536) (placed : (j : ℕ) → j < N → Placed f v j) (typed : (j : ℕ) → j < N → Typed f j) where
-  operand : {s : Sort} (a : ℕ) → sortAt f a ≡ s → Fine v (treeAt f a .1) → Fine v (ofSort s (treeAt f a))
-  operand a e h = operand-as (λ s t. Fine v t) f a e h
+module _ {f : ℕ → Record} {v N : ℕ} (words : (j : ℕ) → f j .value < 65536) (sound : Sound f v N) where
+  leaf : (h : Shape) (n : ℕ) → VariableBelow h (f n) v → FineLeaf v (leafBy h (foundMade leafStep h (argsOf h (f n) (treeAt f))))
+  leaf Wrong n l = tt
+  leaf Bare n l = tt
+  leaf Valued n l = dec16-narrow (words n)
+  leaf Named n l = l
+  leaf (One s) n l = tt
+  leaf (Two s t) n l = tt
+  leaf (Three s t u) n l = tt
 
-  parts : (h : Shape) (n : ℕ) → Before n (operandsOf h (f n)) → Sorted (sortAt f) (operandsOf h (f n)) (sortsOf h) → Listed h (f n) v → ((j : ℕ) → j < n → Fine v (treeAt f j .1))
-      → FineMade v h (argsOf h (f n) (treeAt f))
-  parts Wrong n b t l all = tt
-  parts Bare n b t l all = tt
-  parts Valued n b t l all = dec16-narrow (words n)
-  parts Named n b t l all = l
-  parts (One s) n b t l all = operand (f n .a) (t .0) (all (f n .a) (b .0))
-  parts (Two s t) n b y l all = (operand (f n .a) (y .1 .0) (all (f n .a) (b .1 .0)), operand (f n .b) (y .0) (all (f n .b) (b .0)))
-  parts (Three s t u) n b y l all = (
-    operand (f n .a) (y .1 .1 .0) (all (f n .a) (b .1 .1 .0)),
-    operand (f n .b) (y .1 .0) (all (f n .b) (b .1 .0)),
-    operand (f n .c) (y .0) (all (f n .c) (b .0)),
-  )
+  node-leaf : (n : ℕ) → n < N → FineHere v (treeAt f n .0) (treeAt f n .1)
+  node-leaf n l =
+      let p = sound .placed n l in
+      rw (tree-is f n (lower p), found-make (f n .kind) (p .known) (argsOf (shapeAt (f n)) (f n) (treeAt f)) leafStep) (leaf (shapeAt (f n)) n (p .listed))
 
-  fine-below : (m n : ℕ) → n < m → n < N → Fine v (treeAt f n .1)
-  fine-below zero n h l = absurd (omega arith)
-  fine-below (suc m) n h l =
-      let p = placed n l in
-      let b = lower p in
-      rw (tree-is f n b, fine-make (f n .kind) (p .known) (argsOf (shapeAt (f n)) (f n) (treeAt f)) v) (parts (shapeAt (f n)) n b (typed n l) (p .listed) (λ j i. fine-below m j (omega arith) (omega arith)))
-
-  pub fine-is : (n : ℕ) → n < N → Fine v (treeAt f n .1)
-  fine-is n l = fine-below (suc n) n (omega arith) l
-
-pub goal-fine : {f : ℕ → Record} {v N : ℕ} → ((j : ℕ) → f j .value < 65536) → Sound f v N → Fine v (goalOf f N)
-goal-fine {f} {v} {N} words h = operand words (h .placed) (h .typed) (N - 1) (h .goal) (fine-is words (h .placed) (h .typed) (N - 1) (omega (arith, h .some-node)))
+  pub goal-fine : Fine v (goalOf f N)
+  goal-fine = throughout-fine v (goalOf f N) (goal-throughout (FineHere v) sound node-leaf)
 
 -- ---- the whole rule
 module _ (s : List ℕ) (r : LaidOut s) where
@@ -59,9 +47,9 @@ module _ (s : List ℕ) (r : LaidOut s) where
   variable-fine j h =
       let i : ℕ = variablePlace j in
       record {
-        ends = record { low = i16-narrow s (r .bytes) i; high = i16-narrow s (r .bytes) (i + 2) };
+        ends = record { low = i16-narrow s (r .bytes) i; high = i16-narrow s (r .bytes) (i + maxOffset) };
         short = rw length-take (omega (arith, r .variables j h .short));
-        bytes = bytes-take (nameSize s i) (drop (i + 6) s) (bytes-drop (i + 6) s (r .bytes));
+        bytes = bytes-take (nameSize s i) (drop (i + nameStart) s) (bytes-drop (i + nameStart) s (r .bytes));
       }
 
   pub rule-well : WellFormed (ruleIn s)

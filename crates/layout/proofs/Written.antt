@@ -19,10 +19,11 @@ use Rattle.kinds.specs.declared.Shape.the-variants.{Wrong, Bare, Valued, Named,
 use Rattle.kinds.specs.Rows.{Known}
 use Rattle.layout.specs.Limits.{blockBytes, contentBytes, variableBytes, nameField}
 use Rattle.layout.specs.Checks.{checkOf, sealed}
-use Rattle.layout.specs.Starts.{shapeAt, operandsOf, unusedOf, Listed, Placed}
+use Rattle.layout.specs.Starts.{shapeAt, operandsOf, VariableBelow}
+use Rattle.layout.specs.LaidOut.{unusedOf, Placed}
 use Rattle.layout.specs.Sheet.{recordBytes, variableRecord, filled}
 use Rattle.layout.specs.WellFormed.{FineVariable}
-use Rattle.kinds.proofs.KindLaws.{byte-kind}
+use Rattle.kinds.proofs.KindLaws.{byte-small}
 use Rattle.layout.proofs.StartLaws.{Before, lower}
 
 -- ---- bytes
@@ -83,7 +84,7 @@ bytes-variable v f =
     (bytes-append (pair (enc 16 (v .domain .high))) (n ∷ 0 ∷ (v .name ++ z)) (bytes-pair (enc16-lt (v .domain .high))) t)
 
 -- the fields that are no value have 16 bits where the node stands below number 65,536
-narrow-fields : (h : Shape) (r : Record) (n v : ℕ) → Known h → unusedOf h r + r .spare ≡ 0 → Before n (operandsOf h r) → Listed h r v → n ≤ 65536 → v ≤ 65536 → (r .a < 65536) × (r .b < 65536) × (r .c < 65536)
+narrow-fields : (h : Shape) (r : Record) (n v : ℕ) → Known h → unusedOf h r + r .spare ≡ 0 → Before n (operandsOf h r) → VariableBelow h r v → n ≤ 65536 → v ≤ 65536 → (r .a < 65536) × (r .b < 65536) × (r .c < 65536)
 narrow-fields Wrong r n v k z b l p q = absurd k
 narrow-fields Bare r n v k z b l p q = omega arith
 narrow-fields Valued r n v k z b l p q = omega arith
@@ -100,7 +101,7 @@ bytes-record {f} {v} {n} p h k w =
     let c : List ℕ = pair (r .c) ++ t in
     let b : List ℕ = pair (r .b) ++ c in
     let a : List ℕ = pair (r .a) ++ b in
-    bytes-cons (0 ∷ a) (byte-kind (r .kind) (p .known) .0)
+    bytes-cons (0 ∷ a) (byte-small (r .kind))
     (bytes-cons a (lit< tt)
     (bytes-append (pair (r .a)) b (bytes-pair (m .0))
     (bytes-append (pair (r .b)) c (bytes-pair (m .1))

@@ -10,7 +10,6 @@ use Rattle.kinds.specs.declared.Record.{Record}
 use Rattle.kinds.specs.declared.Shape.{Shape}
 use Rattle.kinds.specs.declared.Shape.the-variants.{Wrong, Bare, Valued, Named, One, Two, Three}
 use Rattle.kinds.specs.Kinds.{row}
-use Rattle.kinds.specs.Rows.{Args, Each, by-rows}
 use Rattle.layout.specs.Starts.{shapeAt}
 
 -- what a node of a shape is found from: a constant, a variable's number, or what was found of the operands
@@ -22,16 +21,6 @@ Found A Named = ℕ
 Found A (One s) = A
 Found A (Two s t) = A × A
 Found A (Three s t u) = A × A × A
-
--- of a tree's parts x, where y has what was found of the operands among them
-abbrev pub foundIn : (A : Type 0) (h : Shape) (x : Args h) → Each (λ s t. A) h x → Found A h
-foundIn A Wrong x y = tt
-foundIn A Bare x y = tt
-foundIn A Valued x y = x
-foundIn A Named x y = x
-foundIn A (One s) x y = y
-foundIn A (Two s t) x y = y
-foundIn A (Three s t u) x y = y
 
 module _ {A : Type 0} where
   -- of a record, where g has what was found of the nodes before it
@@ -47,7 +36,23 @@ module _ {A : Type 0} where
   module _ (step : (k : Kind) → Found A (row k .shape) → A) where
     -- of a tree
     unfoldable pub ofTree : {s : Sort} → Tree s → A
-    ofTree t = by-rows (λ s u. A) (λ k q x y. step k (foundIn A (row k .shape) x y)) t
+    ofTree Tree.tru = step Kind.True tt
+    ofTree Tree.fls = step Kind.False tt
+    ofTree (Tree.neg a) = step Kind.Not (ofTree a)
+    ofTree (Tree.conj a b) = step Kind.And (ofTree a, ofTree b)
+    ofTree (Tree.disj a b) = step Kind.Or (ofTree a, ofTree b)
+    ofTree (Tree.implies a b) = step Kind.Implies (ofTree a, ofTree b)
+    ofTree (Tree.iff a b) = step Kind.Iff (ofTree a, ofTree b)
+    ofTree (Tree.equal a b) = step Kind.Equal (ofTree a, ofTree b)
+    ofTree (Tree.less a b) = step Kind.Less (ofTree a, ofTree b)
+    ofTree (Tree.atMost a b) = step Kind.AtMost (ofTree a, ofTree b)
+    ofTree (Tree.const z) = step Kind.Constant z
+    ofTree (Tree.var i) = step Kind.Variable i
+    ofTree (Tree.minus a) = step Kind.Minus (ofTree a)
+    ofTree (Tree.sum a b) = step Kind.Sum (ofTree a, ofTree b)
+    ofTree (Tree.difference a b) = step Kind.Difference (ofTree a, ofTree b)
+    ofTree (Tree.product a b) = step Kind.Product (ofTree a, ofTree b)
+    ofTree (Tree.ite a b c) = step Kind.If (ofTree a, ofTree b, ofTree c)
 
     -- of node n of a table, where g has what was found of the nodes before it
     abbrev pub nodeStep : (ℕ → Record) → ℕ → (ℕ → A) → A

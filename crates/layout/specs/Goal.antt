@@ -1,6 +1,5 @@
 -- The tree of each node of a table, and of the goal.
-use Prim.Native.Nat.{ℕ, _-_, _<_}
-use mathlib.Core.Path.{_≡_}
+use Prim.Native.Nat.{ℕ, _-_}
 use lib.IntN.{pos}
 use Rattle.lists.specs.Course.{course}
 use Rattle.numbers.specs.Two.{dec}
@@ -10,13 +9,9 @@ use Rattle.meaning.specs.Tree.{Tree, fls, const}
 use Rattle.kinds.specs.declared.Record.{Record}
 use Rattle.kinds.specs.declared.Shape.{Shape}
 use Rattle.kinds.specs.declared.Shape.the-variants.{Wrong, Bare, Valued, Named, One, Two, Three}
-use Rattle.kinds.specs.Kinds.{row}
-use Rattle.kinds.specs.Rows.{Args, make}
-use Rattle.layout.specs.Starts.{shapeAt, sortAt, startAt, Placed, Typed}
-
--- a tree of some sort
-abbrev pub SomeTree : Type 0
-SomeTree = (s : Sort) × Tree s
+use Rattle.kinds.specs.Kinds.{Args, row}
+use Rattle.kinds.specs.Rows.{make, SomeTree}
+use Rattle.layout.specs.Starts.{shapeAt}
 
 -- the tree as one of the sort asked for; of the other sort, something stands for it
 abbrev pub recast : (s t : Sort) → Tree t → Tree s
@@ -47,11 +42,3 @@ treeAt f n = course (Truth, fls) (treeStep f) n
 -- the last node is the goal
 abbrev pub goalOf : (ℕ → Record) → ℕ → Tree Truth
 goalOf f n = ofSort Truth (treeAt f (n - 1))
-
--- a table of n nodes over v variables that is in order and of the right sorts, and whose goal is the whole of it and a truth value
-pub record Sound (f : ℕ → Record) (v n : ℕ) : Type 0 where
-  pub some-node : 0 < n
-  pub placed : (j : ℕ) → j < n → Placed f v j
-  pub typed : (j : ℕ) → j < n → Typed f j
-  pub whole : startAt f (n - 1) ≡ 0
-  pub goal : sortAt f (n - 1) ≡ Truth

@@ -3,6 +3,7 @@ pub mod Checks
 pub mod Starts
 pub mod Goal
 pub mod Parts
+pub mod LaidOut
 pub mod Nodes
 pub mod Sheet
 pub mod WellFormed

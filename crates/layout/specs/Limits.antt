@@ -1,4 +1,4 @@
--- The sizes and limits of document 01, "The sheet in 512-byte blocks", each named once.
+-- The sizes, places and limits of document 01, "The sheet in 512-byte blocks", each named once.
 use Prim.Native.Nat.{ℕ, _+_, _-_, _*_, _/_, _%_}
 
 -- a block, and the bytes of it that are no check
@@ -12,34 +12,84 @@ contentBytes = 510
 abbrev pub modulus : ℕ
 modulus = 65521
 
--- a variable's record, and the most bytes of a name
-abbrev pub variableBytes : ℕ
-variableBytes = 24
+-- block 0: where its numbers stand, and the zero bytes up to the first variable record
+abbrev pub editionOffset : ℕ
+editionOffset = 0
 
-abbrev pub mostNameBytes : ℕ
-mostNameBytes = 16
+abbrev pub nodeCountOffset : ℕ
+nodeCountOffset = 2
 
--- where a name starts in its record, and the bytes from there to the record's end
-abbrev pub nameStart : ℕ
-nameStart = 6
+abbrev pub variableCountOffset : ℕ
+variableCountOffset = 4
 
-abbrev pub nameField : ℕ
-nameField = variableBytes - nameStart
+abbrev pub headerGap : ℕ
+headerGap = 5
+
+abbrev pub headerBytes : ℕ
+headerBytes = 8
+
+abbrev pub headerGapBytes : ℕ
+headerGapBytes = headerBytes - headerGap
 
 abbrev pub mostVariables : ℕ
 mostVariables = 16
 
--- a node's record, and the records of a block
+-- a variable's record: after min come max, the name's length, a zero byte and the name
+abbrev pub variableBytes : ℕ
+variableBytes = 24
+
+abbrev pub maxOffset : ℕ
+maxOffset = 2
+
+abbrev pub nameSizeOffset : ℕ
+nameSizeOffset = 4
+
+abbrev pub zeroOffset : ℕ
+zeroOffset = 5
+
+abbrev pub nameStart : ℕ
+nameStart = 6
+
+abbrev pub mostNameBytes : ℕ
+mostNameBytes = 16
+
+-- where the bytes of the longest name end, and the bytes from a name's start to its record's end
+abbrev pub nameEnd : ℕ
+nameEnd = nameStart + mostNameBytes
+
+abbrev pub nameField : ℕ
+nameField = variableBytes - nameStart
+
+-- a node's record: after the kind come a zero byte, a, b, c and the value; the rest is zero
 abbrev pub nodeBytes : ℕ
 nodeBytes = 16
 
+abbrev pub spareOffset : ℕ
+spareOffset = 1
+
+abbrev pub aOffset : ℕ
+aOffset = 2
+
+abbrev pub bOffset : ℕ
+bOffset = 4
+
+abbrev pub cOffset : ℕ
+cOffset = 6
+
+abbrev pub valueOffset : ℕ
+valueOffset = 8
+
+abbrev pub spareStart : ℕ
+spareStart = 10
+
+-- the node records of a block
 abbrev pub nodesInBlock : ℕ
 nodesInBlock = 31
 
 abbrev pub mostNodes : ℕ
 mostNodes = 248
 
--- n nodes take n / 31 blocks, rounded up
+-- the blocks that n nodes take, the last one perhaps in part
 abbrev pub blocksFor : ℕ → ℕ
 blocksFor n = (n + (nodesInBlock - 1)) / nodesInBlock
 
@@ -49,10 +99,6 @@ mostBlocks = blocksFor mostNodes + 1
 
 abbrev pub mostSheetBytes : ℕ
 mostSheetBytes = blockBytes * mostBlocks
-
--- the bytes before the first variable record
-abbrev pub headerBytes : ℕ
-headerBytes = 8
 
 -- where the record of variable i and that of node n stand
 abbrev pub variablePlace : ℕ → ℕ

@@ -10,7 +10,7 @@ use Rattle.kinds.specs.declared.Record.{Record}
 use Rattle.kinds.specs.declared.Shape.{Shape}
 use Rattle.kinds.specs.declared.Shape.the-variants.{Wrong, Bare, Valued, Named, One, Two, Three}
 use Rattle.kinds.specs.Kinds.{row}
-use Rattle.kinds.specs.Rows.{Args, Each, by-rows}
+use Rattle.layout.specs.Fold.{Found, ofTree}
 
 -- a node's record; what is not used is zero
 abbrev pub node : Kind → ℕ → ℕ → ℕ → ℕ → Record
@@ -42,18 +42,21 @@ threeOf k x y z i =
     let n : ℕ = m + length (z m) in
     x i ++ (y j ++ (z m ++ (node k (j - 1) (m - 1) (n - 1) 0 ∷ [])))
 
--- the records of a node: by the shape, from its kind, what it is made of and the records of its operands
-abbrev pub listBy : (h : Shape) → Kind → (x : Args h) → Each (λ s t. Listing) h x → Listing
-listBy Wrong k x y = leaf (node k 0 0 0 0)
-listBy Bare k x y = leaf (node k 0 0 0 0)
-listBy Valued k x y = leaf (node k 0 0 0 (enc 16 x))
-listBy Named k x y = leaf (node k x 0 0 0)
-listBy (One s) k x y = oneOf k y
-listBy (Two s t) k x y = twoOf k (y .0) (y .1)
-listBy (Three s t u) k x y = threeOf k (y .0) (y .1) (y .2)
+-- the records of a node: by the shape, from its kind and what it is made of, the records of its operands
+abbrev pub listBy : (h : Shape) → Kind → Found Listing h → Listing
+listBy Wrong k x = leaf (node k 0 0 0 0)
+listBy Bare k x = leaf (node k 0 0 0 0)
+listBy Valued k x = leaf (node k 0 0 0 (enc 16 x))
+listBy Named k x = leaf (node k x 0 0 0)
+listBy (One s) k x = oneOf k x
+listBy (Two s t) k x = twoOf k (x .0) (x .1)
+listBy (Three s t u) k x = threeOf k (x .0) (x .1) (x .2)
 
-unfoldable pub listing : {s : Sort} → Tree s → Listing
-listing t = by-rows (λ s u. Listing) (λ k q x. listBy (row k .shape) k x) t
+abbrev pub listStep : (k : Kind) → Found Listing (row k .shape) → Listing
+listStep k x = listBy (row k .shape) k x
+
+abbrev pub listing : {s : Sort} → Tree s → Listing
+listing t = ofTree listStep t
 
 abbrev pub nodesOf : {s : Sort} → ℕ → Tree s → List Record
 nodesOf i t = listing t i

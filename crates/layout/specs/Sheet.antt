@@ -9,27 +9,27 @@ use Rattle.numbers.specs.Bytes.{pair}
 use Rattle.meaning.specs.Rule.{Variable, Rule}
 use Rattle.kinds.specs.declared.Record.{Record}
 use Rattle.kinds.specs.Kinds.{row}
-use Rattle.layout.specs.Limits.{contentBytes, nameField, nodesInBlock, blocksFor}
+use Rattle.layout.specs.Limits.{contentBytes, headerGapBytes, nameField, nodeBytes, spareStart, nodesInBlock, blocksFor}
 use Rattle.layout.specs.Checks.{sealed}
 use Rattle.layout.specs.Nodes.{nodesOf}
 
--- a node record's 16 bytes
+-- a node's record
 abbrev pub recordBytes : Record → List ℕ
-recordBytes r = (row (r .kind) .byte ∷ 0 ∷ []) ++ (pair (r .a) ++ (pair (r .b) ++ (pair (r .c) ++ (pair (r .value) ++ replicate 6 0))))
+recordBytes r = (row (r .kind) .byte ∷ 0 ∷ []) ++ (pair (r .a) ++ (pair (r .b) ++ (pair (r .c) ++ (pair (r .value) ++ replicate (nodeBytes - spareStart) 0))))
 
--- a variable record's 24 bytes
+-- a variable's record
 abbrev pub variableRecord : Variable → List ℕ
 variableRecord v = pair (enc 16 (v .domain .low)) ++ (pair (enc 16 (v .domain .high)) ++ ((length (v .name) ∷ 0 ∷ []) ++ (v .name ++ replicate (nameField - length (v .name)) 0)))
 
--- a block's content: the bytes, and zeros up to 510
+-- a block's content: the bytes, and zeros up to the check
 abbrev pub filled : List ℕ → List ℕ
 filled l = l ++ replicate (contentBytes - length l) 0
 
--- block 0: edition 1, n nodes, the number of variables, three zeros, and the variables' records
+-- block 0: edition 1, n nodes, the number of variables, zeros, and the variables' records
 abbrev pub firstContent : ℕ → List Variable → List ℕ
-firstContent n vs = filled (pair 1 ++ (pair n ++ ((length vs ∷ 0 ∷ 0 ∷ 0 ∷ []) ++ joined variableRecord vs)))
+firstContent n vs = filled (pair 1 ++ (pair n ++ ((length vs ∷ replicate headerGapBytes 0) ++ joined variableRecord vs)))
 
--- node block b: 31 records from number 31 b on
+-- node block b: the records that fall in it
 abbrev pub nodeContent : List Record → ℕ → List ℕ
 nodeContent rs b = filled (joined recordBytes (take nodesInBlock (drop (nodesInBlock * b) rs)))
 

@@ -1,14 +1,14 @@
--- The order of nodes (document 01, "Order"): where a node's subtree starts, and where its operands must stand. A table gives each number its record.
+-- The order of nodes (document 01, "Order"), and what their records' fields are for. A table gives each node's number its record.
 use Prim.Native.Nat.{ℕ, _+_, _<_}
 use mathlib.Core.Path.{_≡_}
 use mathlib.Core.List.{List, [], _∷_}
+use mathlib.Core.Option.{Option, none, some}
 use Rattle.lists.specs.Course.{course}
 use Rattle.meaning.specs.declared.Sort.{Sort}
 use Rattle.kinds.specs.declared.Record.{Record}
 use Rattle.kinds.specs.declared.Shape.{Shape}
 use Rattle.kinds.specs.declared.Shape.the-variants.{Wrong, Bare, Valued, Named, One, Two, Three}
 use Rattle.kinds.specs.Kinds.{row}
-use Rattle.kinds.specs.Rows.{Known}
 
 abbrev pub shapeAt : Record → Shape
 shapeAt r = row (r .kind) .shape
@@ -17,44 +17,52 @@ shapeAt r = row (r .kind) .shape
 abbrev pub sortAt : (ℕ → Record) → ℕ → Sort
 sortAt f n = row (f n .kind) .gives
 
--- a node's operands and the sorts asked of them, the last operand first
+-- what a shape takes a record's fields for: operands, the last first, with the sorts asked of them; a variable's number; nothing
+pub record Fields : Type 0 where
+  pub operands : Record → List ℕ
+  pub sorts : List Sort
+  pub variable : Record → Option ℕ
+  pub unused : Record → List ℕ
+
+abbrev pub fieldsOf : Shape → Fields
+fieldsOf Wrong = record { operands = λ r. []; sorts = []; variable = λ r. none; unused = λ r. [] }
+fieldsOf Bare = record { operands = λ r. []; sorts = []; variable = λ r. none; unused = λ r. r .a ∷ r .b ∷ r .c ∷ r .value ∷ [] }
+fieldsOf Valued = record { operands = λ r. []; sorts = []; variable = λ r. none; unused = λ r. r .a ∷ r .b ∷ r .c ∷ [] }
+fieldsOf Named = record { operands = λ r. []; sorts = []; variable = λ r. some (r .a); unused = λ r. r .b ∷ r .c ∷ r .value ∷ [] }
+fieldsOf (One s) = record { operands = λ r. r .a ∷ []; sorts = s ∷ []; variable = λ r. none; unused = λ r. r .b ∷ r .c ∷ r .value ∷ [] }
+fieldsOf (Two s t) = record { operands = λ r. r .b ∷ r .a ∷ []; sorts = t ∷ s ∷ []; variable = λ r. none; unused = λ r. r .c ∷ r .value ∷ [] }
+fieldsOf (Three s t u) = record { operands = λ r. r .c ∷ r .b ∷ r .a ∷ []; sorts = u ∷ t ∷ s ∷ []; variable = λ r. none; unused = λ r. r .value ∷ [] }
+
 abbrev pub operandsOf : Shape → Record → List ℕ
-operandsOf Wrong r = []
-operandsOf Bare r = []
-operandsOf Valued r = []
-operandsOf Named r = []
-operandsOf (One s) r = r .a ∷ []
-operandsOf (Two s t) r = r .b ∷ r .a ∷ []
-operandsOf (Three s t u) r = r .c ∷ r .b ∷ r .a ∷ []
+operandsOf h r = fieldsOf h .operands r
 
 abbrev pub sortsOf : Shape → List Sort
-sortsOf Wrong = []
-sortsOf Bare = []
-sortsOf Valued = []
-sortsOf Named = []
-sortsOf (One s) = s ∷ []
-sortsOf (Two s t) = t ∷ s ∷ []
-sortsOf (Three s t u) = u ∷ t ∷ s ∷ []
+sortsOf h = fieldsOf h .sorts
 
--- the sum of the fields that the shape doesn't use
-abbrev pub unusedOf : Shape → Record → ℕ
-unusedOf Wrong r = 0
-unusedOf Bare r = r .a + r .b + r .c + r .value
-unusedOf Valued r = r .a + r .b + r .c
-unusedOf Named r = r .b + r .c + r .value
-unusedOf (One s) r = r .b + r .c + r .value
-unusedOf (Two s t) r = r .c + r .value
-unusedOf (Three s t u) r = r .value
+-- every number of the list is zero
+abbrev pub AllZero : List ℕ → Type 0
+AllZero [] = Unit {0}
+AllZero (x ∷ xs) = (x ≡ 0) × AllZero xs
 
--- where the subtree of node n starts: with its first operand's, or with itself
+-- the fields that a shape doesn't use are zero
+abbrev pub UnusedZero : Shape → Record → Type 0
+UnusedZero h r = AllZero (fieldsOf h .unused r)
+
+-- a variable's number, where there is one, is below v
+abbrev pub Below : ℕ → Option ℕ → Type 0
+Below v none = Unit {0}
+Below v (some i) = i < v
+
+abbrev pub VariableBelow : Shape → Record → ℕ → Type 0
+VariableBelow h r v = Below v (fieldsOf h .variable r)
+
+-- where node n's subtree starts: at its first operand's start, or without operands at n; g has the starts of the operands, the last first
+abbrev pub startFrom : ℕ → (ℕ → ℕ) → List ℕ → ℕ
+startFrom n g [] = n
+startFrom n g (x ∷ xs) = startFrom (g x) g xs
+
 abbrev pub startBy : Shape → Record → ℕ → (ℕ → ℕ) → ℕ
-startBy Wrong r n g = n
-startBy Bare r n g = n
-startBy Valued r n g = n
-startBy Named r n g = n
-startBy (One s) r n g = g (r .a)
-startBy (Two s t) r n g = g (r .a)
-startBy (Three s t u) r n g = g (r .a)
+startBy h r n g = startFrom n g (operandsOf h r)
 
 abbrev pub startStep : (ℕ → Record) → ℕ → (ℕ → ℕ) → ℕ
 startStep f n g = startBy (shapeAt (f n)) (f n) n g
@@ -62,34 +70,16 @@ startStep f n g = startBy (shapeAt (f n)) (f n) n g
 unfoldable pub startAt : (ℕ → Record) → ℕ → ℕ
 startAt f n = course 0 (startStep f) n
 
--- the operands, the last first, stand where the order puts them before number e, where st has the subtrees' starts:
--- the last is the node just before e, each earlier one the node just before the whole subtree of the next
+-- the operands before node n, the last first: the last is node n - 1, and the one before it ends just before the last one's subtree
 abbrev pub Ordered : (ℕ → ℕ) → ℕ → List ℕ → Type 0
-Ordered st e [] = Unit {0}
-Ordered st e (x ∷ xs) = (x + 1 ≡ e) × Ordered st (st x) xs
+Ordered start n [] = Unit {0}
+Ordered start n (x ∷ xs) = (x + 1 ≡ n) × Ordered start (start x) xs
 
 -- each operand gives the sort asked of it
 abbrev pub Sorted : (ℕ → Sort) → List ℕ → List Sort → Type 0
 Sorted so [] ss = Unit {0}
 Sorted so (x ∷ xs) [] = Unit {0}
 Sorted so (x ∷ xs) (s ∷ ss) = (so x ≡ s) × Sorted so xs ss
-
--- the number of a variable is below v
-abbrev pub Listed : Shape → Record → ℕ → Type 0
-Listed Wrong r v = Unit {0}
-Listed Bare r v = Unit {0}
-Listed Valued r v = Unit {0}
-Listed Named r v = r .a < v
-Listed (One s) r v = Unit {0}
-Listed (Two s t) r v = Unit {0}
-Listed (Three s t u) r v = Unit {0}
-
--- node n's record names a known kind, uses no field that the kind doesn't, has its operands in order and reads one of the v variables
-pub record Placed (f : ℕ → Record) (v n : ℕ) : Type 0 where
-  pub known : Known (shapeAt (f n))
-  pub clear : unusedOf (shapeAt (f n)) (f n) + f n .spare ≡ 0
-  pub ordered : Ordered (startAt f) n (operandsOf (shapeAt (f n)) (f n))
-  pub listed : Listed (shapeAt (f n)) (f n) v
 
 -- node n's operands are of the right sorts
 abbrev pub Typed : (ℕ → Record) → ℕ → Type 0

@@ -11,7 +11,6 @@ use Rattle.lists.specs.Joined.{joinedBelow}
 use Rattle.lists.proofs.JoinedLaws.{joined-none, length-more}
 use Rattle.numbers.specs.Bytes.{Bytes, u16At}
 use Rattle.numbers.proofs.Bytes16.{u16-lt, enc16-dec16}
-use Rattle.kinds.specs.Rows.{by-rows}
 use Rattle.layout.specs.Limits.{variablePlace}
 use Rattle.layout.specs.Fold.{ofTree}
 use Rattle.wording.specs.Words.{wordOf}
@@ -30,7 +29,7 @@ unfolding rangeStart
 start-length low i = simp (length-append, hex-length) (omega arith)
 
 pub range-length : (s : List ℕ) (i : ℕ) → length (rangeLine s i) ≡ rangeBytes (length (symbolText i))
-unfolding rangeLine ofTree by-rows wordOf
+unfolding rangeLine ofTree
 range-length s i = simp (length-append, literal-length) (omega arith)
 
 -- both lines of the first variables: none, one more, and how long they can be
@@ -58,7 +57,7 @@ flat-line : (a o w p q b l v h e n : List ℕ)
 flat-line a o w p q b l v h e n = simp append-assoc
 
 range-is : (s : List ℕ) → Bytes s → (i : ℕ) → rangeStart (u16At s (variablePlace i)) i ++ rangeEnd i (u16At s (variablePlace i + 2)) ≡ rangeLine s i
-unfolding rangeStart rangeEnd rangeLine literal ofTree by-rows wordOf
+unfolding rangeStart rangeEnd rangeLine literal ofTree
 range-is s b i = rw (enc16-dec16 (u16-lt s b (variablePlace i)), enc16-dec16 (u16-lt s b (variablePlace i + 2)))
     (flat-parts lowest (hexText (u16At s (variablePlace i))) blank (symbolText i) highest blank (hexText (u16At s (variablePlace i + 2))) closed
     ∙ sym (flat-line (ascii "(assert ") (ascii "(") (ascii "and") (ascii "bvsle") (ascii "bvsle") (ascii " ") (hexText (u16At s (variablePlace i))) (symbolText i) (hexText (u16At s (variablePlace i + 2))) (ascii ")") (ascii "\n")))

@@ -21,6 +21,13 @@ module _ {t : Bool} {P : Type 0} (d : Decides t P) where
       go true e n = absurd (n (d .0 e))
       go false e n = refl
 
+  pub decided : Dec P
+  decided = go t refl
+    where
+      go : (u : Bool) → t ≡ u → Dec P
+      go true e = yes (d .0 e)
+      go false e = no (denied .0 e)
+
   -- by another proposition
   pub decides-as : {Q : Type 0} → (P → Q) → (Q → P) → Decides t Q
   decides-as f g = (λ e. f (d .0 e), λ q. d .1 (g q))

@@ -31,6 +31,13 @@ module _ {A : Type 0} where
     unfolding first
     first-stop k n e = rw (e, first)
 
+    pub first-suc : (k n : ℕ) → first f k (suc n) ≡ (f k otherwise first f (suc k) n)
+    first-suc k n = go (f k) refl
+      where
+        go : (o : Option A) → f k ≡ o → first f k (suc n) ≡ (f k otherwise first f (suc k) n)
+        go none q = first-pass k n q ∙ rw q
+        go (some x) q = first-stop k n q ∙ rw q
+
     -- the step of a loop that stands at k of n
     pub left-pass : {k n : ℕ} → k < n → f k ≡ none → first f k (n - k) ≡ first f (k + 1) (n - (k + 1))
     left-pass {k} {n} h e =

@@ -6,3 +6,4 @@ pub mod Decided
 pub mod FirstLaws
 pub mod PartLaws
 pub mod JoinedLaws
+pub mod NameLaws

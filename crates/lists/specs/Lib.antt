@@ -5,3 +5,5 @@ pub mod First
 pub mod Part
 pub mod Ascii
 pub mod Joined
+pub mod Names
+pub mod Few

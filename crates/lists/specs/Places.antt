@@ -13,7 +13,7 @@ abbrev pub from : {A : Type 0} → (ℕ → A) → ℕ → ℕ → List A
 from f i zero = []
 from f i (suc k) = f i ∷ from f (suc i) k
 
--- the test holds at every number below n
+-- follows the code: the test holds at every number below n
 unfoldable pub allBelow : (ℕ → Bool) → ℕ → Bool
 allBelow t zero = true
 allBelow t (suc n) = t n && allBelow t n

@@ -1,4 +1,4 @@
--- A list that stands at numbered places, one thing after another.
+-- Serves proofs: a list that stands at numbered places, one thing after another.
 use Prim.Native.Nat.{ℕ, suc, _+_}
 use mathlib.Core.Path.{_≡_}
 use mathlib.Core.List.{List, [], _∷_}

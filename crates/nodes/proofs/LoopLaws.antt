@@ -66,7 +66,7 @@ begin {s} c en ev = record {
   le = omega arith;
   starts-size = refl;
   findings-size = refl;
-  starts-are = filled-none 0 (startStep (table s)) 248;
+  starts-are = filled-none 0 (startStep (table s)) mostNodes;
   findings-are = filled-none Truth (step s) mostNodes;
   passed = λ j h. absurd (omega arith);
 }

@@ -8,29 +8,29 @@ use lib.Dec.{lit≤}
 use lib.IntN.{ℤ, pos}
 use Rattle.lists.specs.Run.{Stands}
 use Rattle.numbers.specs.Two.{enc, dec, Within}
-use Rattle.numbers.specs.Bytes.{byteAt, u16At, i16At, pair, Bytes}
+use Rattle.numbers.specs.Bytes.{byteLimit, wordLimit, byteAt, u16At, i16At, pair, Bytes}
 use Rattle.numbers.specs.Ranges.{Narrow}
 use Rattle.numbers.proofs.Zed.{zed, pos-ud, negsuc-ud, neg-ud}
 use Rattle.numbers.proofs.Coding.{enc-lt, dec-enc, dec-within, enc-dec, enc-inj}
 
 -- ---- a number by its lower and higher byte
-pub word-lt : {a b : ℕ} → a < 256 → b < 256 → a + 256 * b < 65536
+pub word-lt : {a b : ℕ} → a < byteLimit → b < byteLimit → a + byteLimit * b < wordLimit
 word-lt h k = omega arith
 
-pub word-parts : {a c : ℕ} (b d : ℕ) → a < 256 → c < 256 → a + 256 * b ≡ c + 256 * d → (a ≡ c) × (b ≡ d)
+pub word-parts : {a c : ℕ} (b d : ℕ) → a < byteLimit → c < byteLimit → a + byteLimit * b ≡ c + byteLimit * d → (a ≡ c) × (b ≡ d)
 word-parts b d h k e = omega arith
 
-pub word-pair : {a : ℕ} (b : ℕ) → a < 256 → pair (a + 256 * b) ≡ a ∷ b ∷ []
+pub word-pair : {a : ℕ} (b : ℕ) → a < byteLimit → pair (a + byteLimit * b) ≡ a ∷ b ∷ []
 word-pair {a} b h =
-    let l : (a + 256 * b) % 256 ≡ a = omega arith in
-    let u : (a + 256 * b) / 256 ≡ b = omega arith in
+    let l : (a + byteLimit * b) % byteLimit ≡ a = omega arith in
+    let u : (a + byteLimit * b) / byteLimit ≡ b = omega arith in
     rw (l, u)
 
-pub pair-word : (x : ℕ) → x % 256 + 256 * (x / 256) ≡ x
+pub pair-word : (x : ℕ) → x % byteLimit + byteLimit * (x / byteLimit) ≡ x
 pair-word x = omega arith
 
 -- ---- in a list
-pub u16-of : (s : List ℕ) (j x : ℕ) → byteAt s j ≡ x % 256 → byteAt s (j + 1) ≡ x / 256 → u16At s j ≡ x
+pub u16-of : (s : List ℕ) (j x : ℕ) → byteAt s j ≡ x % byteLimit → byteAt s (j + 1) ≡ x / byteLimit → u16At s j ≡ x
 u16-of s j x e f = omega arith
 
 pub u16-of-stands : (s : List ℕ) (j x : ℕ) → Stands (byteAt s) j (pair x) → u16At s j ≡ x
@@ -38,13 +38,13 @@ u16-of-stands s j x h = u16-of s j x (h .0) (rw add-one (h .1 .0))
 
 -- ---- in a list of bytes
 module _ (s : List ℕ) (b : Bytes s) where
-  pub u16-lt : (j : ℕ) → u16At s j < 65536
+  pub u16-lt : (j : ℕ) → u16At s j < wordLimit
   u16-lt j = word-lt (b j) (b (j + 1))
 
   pub u16-pair : (j : ℕ) → pair (u16At s j) ≡ byteAt s j ∷ byteAt s (j + 1) ∷ []
   u16-pair j = word-pair (byteAt s (j + 1)) (b j)
 
-  pub u16-bytes : (j x : ℕ) → u16At s j ≡ x → (byteAt s j ≡ x % 256) × (byteAt s (j + 1) ≡ x / 256)
+  pub u16-bytes : (j x : ℕ) → u16At s j ≡ x → (byteAt s j ≡ x % byteLimit) × (byteAt s (j + 1) ≡ x / byteLimit)
   u16-bytes j x e = omega (arith, b j)
 
   pub stands-of-u16 : (j x : ℕ) → u16At s j ≡ x → Stands (byteAt s) j (pair x)
@@ -59,16 +59,16 @@ narrow-within h = omega (zed, pos-ud 32767, negsuc-ud 32767, pos-ud 32768, neg-u
 pub within-narrow : {z : ℤ} → Within 16 z → Narrow z
 within-narrow h = omega (zed, pos-ud 32767, negsuc-ud 32767, pos-ud 32768, neg-ud (pos 32768))
 
-pub enc16-lt : (z : ℤ) → enc 16 z < 65536
+pub enc16-lt : (z : ℤ) → enc 16 z < wordLimit
 enc16-lt z = enc-lt 16 z
 
-pub dec16-narrow : {n : ℕ} → n < 65536 → Narrow (dec 16 n)
+pub dec16-narrow : {n : ℕ} → n < wordLimit → Narrow (dec 16 n)
 dec16-narrow {n} h = within-narrow (dec-within 16 (lit≤ tt) n h)
 
 pub i16-narrow : (s : List ℕ) → Bytes s → (j : ℕ) → Narrow (i16At s j)
 i16-narrow s b j = dec16-narrow (u16-lt s b j)
 
-pub enc16-dec16 : {n : ℕ} → n < 65536 → enc 16 (dec 16 n) ≡ n
+pub enc16-dec16 : {n : ℕ} → n < wordLimit → enc 16 (dec 16 n) ≡ n
 enc16-dec16 {n} h = enc-dec 16 (lit≤ tt) n h
 
 pub dec16-enc16 : {z : ℤ} → Narrow z → dec 16 (enc 16 z) ≡ z

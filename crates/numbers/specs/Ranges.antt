@@ -21,7 +21,7 @@ pub record NarrowEnds (r : Range) : Type 0 where
   pub low : Narrow (r .low)
   pub high : Narrow (r .high)
 
--- the same as tests
+-- follow the code: the same as tests
 unfoldable pub isNarrow : ℤ → Bool
 isNarrow z = leZ least16 z && leZ z greatest16
 
@@ -38,7 +38,7 @@ pub record In (r : Range) (x : ℤ) : Type 0 where
   pub low : r .low ≤ℤ x
   pub high : x ≤ℤ r .high
 
--- the range a is no wider than b
+-- serves proofs: the range a is no wider than b
 pub record Narrower (a b : Range) : Type 0 where
   pub low : b .low ≤ℤ a .low
   pub high : a .high ≤ℤ b .high
@@ -49,7 +49,7 @@ leastOf a b = cond (leZ a b) a b
 unfoldable pub greatestOf : ℤ → ℤ → ℤ
 greatestOf a b = cond (leZ a b) b a
 
--- minus, sum and difference by the ends
+-- of minus, sum and difference: worked out from the ends
 abbrev pub minusOf : Range → Range
 minusOf a = negℤ (a .high) ⋯ negℤ (a .low)
 
@@ -63,10 +63,10 @@ differenceOf a b = (a .low -ℤ b .high) ⋯ (a .high -ℤ b .low)
 abbrev pub spanOf : ℤ → ℤ → ℤ → ℤ → Range
 spanOf p q r s = leastOf (leastOf p q) (leastOf r s) ⋯ greatestOf (greatestOf p q) (greatestOf r s)
 
--- a product the least to the greatest of the four products of ends
+-- of a product: both ends times both ends, and of these the least and the greatest
 abbrev pub productOf : Range → Range → Range
 productOf a b = spanOf (a .low *ℤ b .low) (a .low *ℤ b .high) (a .high *ℤ b .low) (a .high *ℤ b .high)
 
--- the least to the greatest of both
+-- the least range that has both
 abbrev pub unionOf : Range → Range → Range
 unionOf a b = leastOf (a .low) (b .low) ⋯ greatestOf (a .high) (b .high)

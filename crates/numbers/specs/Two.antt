@@ -14,7 +14,7 @@ enc w (negsuc n) = 2 ^ w - suc (n % 2 ^ w)
 unfoldable pub dec : ℕ → ℕ → ℤ
 dec w n = cond (ltb n (2 ^ (w - 1))) (pos n) (negsuc (2 ^ w - suc n))
 
--- z is one of the integers that w bits stand for
+-- serves proofs: z is one of the integers that w bits stand for
 pub record Within (w : ℕ) (z : ℤ) : Type 0 where
   pub low : negℤ (pos (2 ^ (w - 1))) ≤ℤ z
   pub high : z <ℤ pos (2 ^ (w - 1))

@@ -3,10 +3,10 @@ ghost use mathlib.Core.Path.{_≡_};
 ghost use Prim.Native.Nat.{_+_, _<_};
 ghost use lib.ListN.{length};
 ghost use Rattle.numbers.specs.Two.{dec};
-ghost use Rattle.numbers.specs.Bytes.{byteAt, u16At, i16At};
+ghost use Rattle.numbers.specs.Bytes.{byteLimit, byteAt, u16At, i16At};
 ghost use Rattle.numbers.specs.Ranges.{_⋯_, NarrowEnds, isNarrow, hasNarrowEnds, leastOf, greatestOf, minusOf, sumOf, differenceOf, spanOf, productOf, unionOf};
 
-// A variable's number and a node's number: neither may be taken for the other.
+// The numbers of variables and of nodes: two types, so that neither passes for the other.
 pub struct VariableNumber(pub u16);
 
 pub struct NodeNumber(pub u16);
@@ -17,10 +17,17 @@ pub struct Range {
     pub high: i32,
 }
 
+// How many numbers a byte can hold, and the ends of 16 bits.
+const BYTE_LIMIT: u16 = 256;
+
+const LEAST16: i32 = -32768;
+
+const GREATEST16: i32 = 32767;
+
 // A byte, as a wide number.
 pub fn byte_at(s: &[u8], at: usize) -> u16
     requires { ⌜ at < length (now s) ⌝ }
-    ensures { λ r. ⌜ (r ≡ byteAt (now (s .entry)) at) × (r < 256) ⌝ }
+    ensures { λ r. ⌜ (r ≡ byteAt (now (s .entry)) at) × (r < byteLimit) ⌝ }
 {
     s[at] as u16
 }
@@ -30,7 +37,7 @@ pub fn u16_at(s: &[u8], at: usize) -> u16
     requires { ⌜ at + 1 < length (now s) ⌝ }
     ensures { λ r. ⌜ r ≡ u16At (now (s .entry)) at ⌝ }
 {
-    byte_at(s, at) + 256 * byte_at(s, at + 1)
+    byte_at(s, at) + BYTE_LIMIT * byte_at(s, at + 1)
 }
 
 // The number that 16 bits stand for in two's complement.
@@ -126,7 +133,7 @@ pub fn product(a: Range, b: Range) -> Range
     )
 }
 
-// From the least to the greatest of both.
+// The least range that has both.
 pub fn union(a: Range, b: Range) -> Range
     ensures { λ r. ⌜ r ≡ unionOf a b ⌝ }
 {
@@ -139,7 +146,7 @@ pub fn union(a: Range, b: Range) -> Range
 fn narrow(x: i32) -> bool
     ensures { λ r. ⌜ r ≡ isNarrow x ⌝ }
 {
-    -32768 <= x && x <= 32767
+    LEAST16 <= x && x <= GREATEST16
 }
 
 // Whether both ends have 16 bits.

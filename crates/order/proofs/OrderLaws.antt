@@ -16,7 +16,8 @@ use Rattle.kinds.specs.declared.Shape.{Shape}
 use Rattle.kinds.specs.declared.Shape.the-variants.{Wrong, Bare, Valued, Named, One, Two, Three}
 use Rattle.kinds.specs.Rows.{Known}
 use Rattle.layout.specs.Limits.{mostVariables, mostNodes}
-use Rattle.layout.specs.Starts.{shapeAt, operandsOf, unusedOf, startStep, startAt, Ordered, Listed, Placed}
+use Rattle.layout.specs.Starts.{shapeAt, operandsOf, startStep, startAt, Ordered, VariableBelow}
+use Rattle.layout.specs.LaidOut.{unusedOf, Placed}
 use Rattle.layout.proofs.StartLaws.{start-low, Before}
 use Rattle.order.specs.Order.{isKnown, inOrder, isListed, placed}
 
@@ -34,7 +35,7 @@ pub decides-ordered : (st : ℕ → ℕ) (xs : List ℕ) (e : ℕ) → Decides (
 decides-ordered st [] e = always
 decides-ordered st (x ∷ xs) e = decides-and (decides-eq (x + 1) e) (decides-ordered st xs (st x))
 
-pub decides-listed : (h : Shape) (r : Record) (v : ℕ) → Decides (isListed h r v) (Listed h r v)
+pub decides-listed : (h : Shape) (r : Record) (v : ℕ) → Decides (isListed h r v) (VariableBelow h r v)
 decides-listed Wrong r v = always
 decides-listed Bare r v = always
 decides-listed Valued r v = always
@@ -48,7 +49,7 @@ pub record Keeps (r : Record) (v n : ℕ) (st : ℕ → ℕ) : Type 0 where
   pub known : Known (shapeAt r)
   pub clear : unusedOf (shapeAt r) r + r .spare ≡ 0
   pub ordered : Ordered st n (operandsOf (shapeAt r) r)
-  pub listed : Listed (shapeAt r) r v
+  pub listed : VariableBelow (shapeAt r) r v
 
 module _ (r : Record) (v n : ℕ) (st : ℕ → ℕ) where
   pub decides-keeps : Decides (placed r v n st) (Keeps r v n st)
@@ -129,7 +130,7 @@ module _ {n : ℕ} {st : ℕ → ℕ} (low : (j : ℕ) → j < n → st j ≤ j)
   lower r v e = ordered-before (operandsOf (shapeAt r) r) n (omega arith) (decides-keeps r v n st .0 e .ordered)
 
   -- unused fields are zero
-  fields : (r : Record) (v : ℕ) (h : Shape) → n ≤ mostNodes → v ≤ mostVariables → Known h → unusedOf h r + r .spare ≡ 0 → Before n (operandsOf h r) → Listed h r v
+  fields : (r : Record) (v : ℕ) (h : Shape) → n ≤ mostNodes → v ≤ mostVariables → Known h → unusedOf h r + r .spare ≡ 0 → Before n (operandsOf h r) → VariableBelow h r v
       → (r .a < mostNodes) × (r .b < mostNodes) × (r .c < mostNodes)
   fields r v Wrong l m k z b w = absurd k
   fields r v Bare l m k z b w = omega arith

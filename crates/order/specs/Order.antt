@@ -7,7 +7,8 @@ use lib.ListN.{getD}
 use Rattle.kinds.specs.declared.Record.{Record}
 use Rattle.kinds.specs.declared.Shape.{Shape}
 use Rattle.kinds.specs.declared.Shape.the-variants.{Wrong, Bare, Valued, Named, One, Two, Three}
-use Rattle.layout.specs.Starts.{shapeAt, operandsOf, unusedOf}
+use Rattle.layout.specs.Starts.{shapeAt, operandsOf}
+use Rattle.layout.specs.LaidOut.{unusedOf}
 
 -- the shape is that of a known kind
 abbrev pub isKnown : Shape → Bool

@@ -1,12 +1,14 @@
 // Where a node's operands must stand, and what else its record must keep: refusal 6.
 ghost use mathlib.Core.Path.{_≡_};
-ghost use Prim.Native.Nat.{_+_, _≤_, _<_};
+ghost use Prim.Native.Nat.{_+_, _*_, _≤_, _<_};
 ghost use mathlib.Core.List.{[], _∷_};
 ghost use mathlib.Core.Bool.{true, _&&_};
 ghost use lib.Dec.{eqb};
 ghost use Rattle.lists.specs.Places.{at};
+ghost use Rattle.numbers.specs.Bytes.{wordLimit};
 ghost use Rattle.layout.specs.Limits.{mostNodes};
-ghost use Rattle.layout.specs.Starts.{shapeAt, operandsOf, unusedOf, startBy};
+ghost use Rattle.layout.specs.Starts.{shapeAt, operandsOf, startBy};
+ghost use Rattle.layout.specs.LaidOut.{unusedOf};
 ghost use Rattle.order.specs.Order.{isKnown, inOrder, isListed, placed, Falling};
 use kinds::Record;
 use kinds::Shape;
@@ -28,7 +30,7 @@ fn known(h: Shape) -> bool
 
 // The sum of the fields that the shape doesn't use.
 fn unused(h: Shape, r: Record) -> u32
-    ensures { λ q. ⌜ (q ≡ unusedOf h r) × (q < 262144) ⌝ }
+    ensures { λ q. ⌜ (q ≡ unusedOf h r) × (q < 4 * wordLimit) ⌝ }
 {
     let a = r.a as u32;
     let b = r.b as u32;

@@ -1,36 +1,20 @@
 -- The words of kinds: how long they can be, and those of the code. Assumes nothing.
 use Prim.Native.Nat.{ℕ, _≤_}
-use mathlib.Core.Path.{_≡_}
+use mathlib.Core.Path.{_≡_, refl}
+use mathlib.Core.Bool.{true}
 use mathlib.Core.List.{List}
-use lib.Dec.{T, leb, lit≤}
+use borrow.Author.Tests.{leb-true}
+use lib.Dec.{leb}
 use lib.ListN.{length, take}
 use Rattle.kinds.specs.declared.Kind.{Kind}
-use Rattle.kinds.specs.declared.Kind.the-variants.{Unknown, True, False, Not, And, Or, Implies, Iff, Equal, Less, AtMost, Constant, Variable, Minus, Sum, Difference, Product, If}
-use Rattle.wording.specs.Words.{wordOf}
+use Rattle.kinds.specs.Kinds.{row}
+use Rattle.kinds.proofs.KindLaws.{passes}
 use Rattle.pieces.specs.Sizes.{longestWord}
 use Rattle.pieces.specs.Spelling.{Spells}
 
 -- the row of letters and the number that an arm gives
-pub spelled : {k j : Kind} (l : List ℕ) (n : ℕ) → k ≡ j → n ≡ length (wordOf j) → take n l ≡ wordOf j → T (leb n (length l)) → Spells (wordOf k) (l, n)
-spelled l n e size text few = rw e (record { size = size; few = lit≤ few; text = text })
+pub spelled : {k j : Kind} {l : List ℕ} {n : ℕ} → k ≡ j → n ≡ length (row j .word) → take n l ≡ row j .word → leb n (length l) ≡ true → Spells (row k .word) (l, n)
+spelled e size text few = rw e (record { size = size; few = leb-true _ _ few; text = text })
 
-pub word-short : (k : Kind) → length (wordOf k) ≤ longestWord
-unfolding wordOf
-word-short Unknown = lit≤ tt
-word-short True = lit≤ tt
-word-short False = lit≤ tt
-word-short Not = lit≤ tt
-word-short And = lit≤ tt
-word-short Or = lit≤ tt
-word-short Implies = lit≤ tt
-word-short Iff = lit≤ tt
-word-short Equal = lit≤ tt
-word-short Less = lit≤ tt
-word-short AtMost = lit≤ tt
-word-short Constant = lit≤ tt
-word-short Variable = lit≤ tt
-word-short Minus = lit≤ tt
-word-short Sum = lit≤ tt
-word-short Difference = lit≤ tt
-word-short Product = lit≤ tt
-word-short If = lit≤ tt
+pub word-short : (k : Kind) → length (row k .word) ≤ longestWord
+word-short k = leb-true _ _ (passes (λ j. leb (length (row j .word)) longestWord) refl k)

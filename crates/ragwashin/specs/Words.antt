@@ -4,7 +4,7 @@ use mathlib.Core.Bool.{Bool, true, false}
 use mathlib.Core.List.{List}
 use Rattle.lists.specs.Ascii.{ascii}
 use Rattle.layout.specs.Limits.{mostSheetBytes}
-use Rattle.records.specs.Variables.{sameBytes}
+use Rattle.lists.specs.Names.{sameBytes}
 use Rattle.answers.specs.declared.Request.{Request}
 use Rattle.answers.specs.declared.Request.the-variants.{Read, Script, Check, Tally}
 use Rattle.ragwashin.specs.declared.Word.{Word}

@@ -1,7 +1,7 @@
 // Answers requests about sheets, in files or on standard input; with no word it writes the script.
 ghost use mathlib.Core.Path.{_≡_};
 ghost use mathlib.Core.Bool.{true};
-ghost use Rattle.records.specs.Variables.{sameBytes};
+ghost use Rattle.lists.specs.Names.{sameBytes};
 ghost use Rattle.ragwashin.specs.Words.{mostRead, meant, wordOf, isLine};
 use answers::Request;
 use layout::MOST_SHEET_BYTES;

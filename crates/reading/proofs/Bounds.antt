@@ -1,31 +1,20 @@
--- The number of a sheet's own refusal is neither 0 nor 9 nor 10, and its place is below the most nodes. Assumes nothing.
-use Prim.Native.Nat.{ℕ, _*_, _≤_, _<_}
+-- A sheet's own refusal has a number from 1 up, and a place below the most nodes. Assumes nothing.
+use Prim.Native.Nat.{ℕ, _/_, _*_, _≤_, _<_}
 use mathlib.Core.Path.{_≡_}
 use mathlib.Core.List.{List}
 use mathlib.Core.Option.{some}
 use native.Mathlib.Decide.{decLt}
 use native.Mathlib.Omega.{arith}
 use lib.ListN.{length}
-use Rattle.refusals.specs.declared.Refusal.{Refusal}
 use Rattle.layout.specs.Limits.{blockBytes, mostBlocks, mostNodes, mostVariables}
 use Rattle.layout.specs.Parts.{nodeCount, variableCount}
-use Rattle.reading.specs.Rows.{long, nodes, variables, no-node, row-1, row-2, row-3, row-4, row-5, goal-6, goal-7, Applies, whole, node, after}
+use Rattle.refusals.specs.declared.Refusal.{Refusal}
+use Rattle.refusals.specs.Rows.{row, _then_, eachOf}
+use Rattle.refusals.proofs.BoundLaws.{Bounded, not-applied, bounded-row, bounded-then, bounded-each, bounded-answer}
+use Rattle.nodes.specs.Nodes.{goalAt}
+use Rattle.reading.specs.Rows.{Row1, long, Row2, Row3, Row4, no-node, nodes, variables, Row5, Row6, Row7, Row8, GoalSubtree, GoalType, sheetRows}
 use Rattle.reading.specs.Cascade.{refusalOf}
-use Rattle.reading.proofs.Stages.{sheet-number, node-number}
-use Rattle.reading.proofs.Exact.{refused-exactly}
-
--- 9 and 10 are not the numbers of a sheet's own rows
-pub not-nine : {s : List ℕ} {t n p : ℕ} → Applies s t n p → n ≡ 9 → ⊥
-not-nine (whole n p a) e = omega (arith, sheet-number a)
-not-nine (node m n l a) e = omega (arith, node-number a)
-not-nine (after i n p (goal-6 h)) e = omega arith
-not-nine (after i n p (goal-7 h)) e = omega arith
-
-pub not-ten : {s : List ℕ} {t n p : ℕ} → Applies s t n p → n ≡ 10 → ⊥
-not-ten (whole n p a) e = omega (arith, sheet-number a)
-not-ten (node m n l a) e = omega (arith, node-number a)
-not-ten (after i n p (goal-6 h)) e = omega arith
-not-ten (after i n p (goal-7 h)) e = omega arith
+use Rattle.reading.proofs.Exact.{sheet-exactly}
 
 -- what a refusal's number and place can be
 pub record Small (number place : ℕ) : Type 0 where
@@ -33,42 +22,36 @@ pub record Small (number place : ℕ) : Type 0 where
   pub low-place : place < mostNodes
 
 module _ (s : List ℕ) where
-  -- no row has an earlier turn
-  abbrev First : ℕ → Type 0
-  First t = (u n p : ℕ) → u < t → Applies s u n p → ⊥
+  -- what rows 1 and 4 leave
+  short : (Row1 s → ⊥) → length s ≤ blockBytes * mostBlocks
+  short f = elim (decLt (blockBytes * mostBlocks) (length s)) [ yes d ↦ absurd (f (long d)) | no d ↦ omega arith ]
 
-  size-bound : {t : ℕ} → 1 < t → First t → length s ≤ blockBytes * mostBlocks
-  size-bound h f = elim (decLt (blockBytes * mostBlocks) (length s)) [ yes d ↦ absurd (f 1 1 0 h (whole 1 0 (row-1 (long d)))) | no d ↦ omega arith ]
+  few : (Row4 s → ⊥) → variableCount s ≤ mostVariables
+  few f = elim (decLt mostVariables (variableCount s)) [ yes d ↦ absurd (f (variables d)) | no d ↦ omega arith ]
 
-  variables-bound : {t : ℕ} → 4 < t → First t → variableCount s ≤ mostVariables
-  variables-bound h f = elim (decLt mostVariables (variableCount s)) [ yes d ↦ absurd (f 4 4 0 h (whole 4 0 (row-4 (variables d)))) | no d ↦ omega arith ]
+  some-node : (Row4 s → ⊥) → 1 ≤ nodeCount s
+  some-node f = elim (decLt (nodeCount s) 1) [ yes d ↦ absurd (f (no-node d)) | no d ↦ omega arith ]
 
-  nodes-bound : {t : ℕ} → 4 < t → First t → (1 ≤ nodeCount s) × (nodeCount s ≤ mostNodes)
-  nodes-bound h f = (
-    elim (decLt (nodeCount s) 1) [ yes d ↦ absurd (f 4 4 0 h (whole 4 0 (row-4 (no-node d)))) | no d ↦ omega arith ],
-    elim (decLt mostNodes (nodeCount s)) [ yes d ↦ absurd (f 4 4 0 h (whole 4 0 (row-4 (nodes d)))) | no d ↦ omega arith ],
-  )
+  most : (Row4 s → ⊥) → nodeCount s ≤ mostNodes
+  most f = elim (decLt mostNodes (nodeCount s)) [ yes d ↦ absurd (f (nodes d)) | no d ↦ omega arith ]
 
-  bounds : {t n p : ℕ} → Applies s t n p → First t → Small n p
-  bounds (whole n p (row-1 h)) f = record { some-number = omega arith; low-place = omega arith }
-  bounds (whole n p (row-2 k h)) f =
-      let l = size-bound (omega arith) f in
-      record { some-number = omega arith; low-place = omega (arith, h .inside) }
-  bounds (whole n p (row-3 h)) f = record { some-number = omega arith; low-place = omega arith }
-  bounds (whole n p (row-4 h)) f = record { some-number = omega arith; low-place = omega arith }
-  bounds (whole n p (row-5 i h)) f =
-      let l = variables-bound (omega arith) f in
-      record { some-number = omega arith; low-place = omega (arith, h .below) }
-  bounds (node m n l h) f =
-      let b = node-number h in
-      let c = nodes-bound (omega arith) f in
-      record { some-number = omega arith; low-place = omega arith }
-  bounds (after i n p (goal-6 h)) f =
-      let c = nodes-bound (omega arith) f in
-      record { some-number = omega arith; low-place = omega arith }
-  bounds (after i n p (goal-7 h)) f =
-      let c = nodes-bound (omega arith) f in
-      record { some-number = omega arith; low-place = omega arith }
+  small : {n p : ℕ} (C : Type 0) → 1 ≤ n → p < mostNodes → Bounded Small (row n p C)
+  small {n} {p} C h l = bounded-row n p C (λ c. record { some-number = h; low-place = l })
+
+  node-small : {n : ℕ} → n < mostNodes → Bounded Small (row 6 n (Row6 s n) then row 7 n (Row7 s n) then row 8 n (Row8 s n))
+  node-small {n} l = bounded-then (small (Row6 s n) (omega arith) l) (λ a. bounded-then (small (Row7 s n) (omega arith) l) (λ b. small (Row8 s n) (omega arith) l))
+
+  pub sheet-small : Bounded Small (sheetRows s)
+  unfolding sheetRows
+  sheet-small =
+      bounded-then (small (Row1 s) (omega arith) (omega arith))
+      (λ a. bounded-then (bounded-each (length s / blockBytes) 0 (λ k i l. small (Row2 s k) (omega arith) (omega (arith, short (not-applied a)))))
+      (λ b. bounded-then (small (Row3 s) (omega arith) (omega arith))
+      (λ c. bounded-then (small (Row4 s) (omega arith) (omega arith))
+      (λ d. bounded-then (bounded-each (variableCount s) 0 (λ k i l. small (Row5 s k) (omega arith) (omega (arith, few (not-applied d)))))
+      (λ e. bounded-then (bounded-each (nodeCount s) 0 (λ k i l. node-small (omega (arith, most (not-applied d)))))
+      (λ f. bounded-then (small (GoalSubtree s) (omega arith) (omega (arith, some-node (not-applied d), most (not-applied d))))
+      (λ g. small (GoalType s) (omega arith) (omega (arith, some-node (not-applied d), most (not-applied d))))))))))
 
   pub refusal-small : {r : Refusal} → refusalOf s ≡ some r → Small (r .number) (r .place)
-  refusal-small {r} e = let a = refused-exactly s r .0 e in bounds (a .applies) (a .first)
+  refusal-small e = bounded-answer sheet-small (sheet-exactly s) e

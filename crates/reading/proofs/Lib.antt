@@ -1,9 +1,9 @@
-pub mod Stages
 pub mod SheetRows
 pub mod NodeRows
 pub mod Exact
 pub mod RuleLaws
 pub mod ReadLaws
+pub mod NameLaws
 pub mod Bounds
 pub mod Change
 pub mod Unique

@@ -1,14 +1,13 @@
 -- The reading step by step: what each step's answer makes of the whole, and what it leaves for the next. Assumes nothing.
 use Prim.Native.Nat.{ℕ, _+_, _*_, _%_, _≤_, _<_}
 use mathlib.Core.Path.{_≡_, sym, ap, _∙_}
-use mathlib.Core.Bool.{true, false}
 use mathlib.Core.List.{List}
 use mathlib.Core.Option.{Option, none, some}
 use native.Mathlib.Omega.{arith}
-use borrow.Author.Tests.{lt-ltb, le-ltb}
 use lib.ListN.{length}
 use Rattle.lists.proofs.FirstLaws.{otherwise-none, otherwise-some}
 use Rattle.refusals.specs.declared.Refusal.{Refusal}
+use Rattle.numbers.specs.Bytes.{mostByte}
 use Rattle.layout.specs.Limits.{blockBytes, nameStart, mostVariables, variablePlace}
 use Rattle.layout.specs.Parts.{variableCount}
 use Rattle.refusals.specs.declared.Reading.{Reading}
@@ -21,7 +20,7 @@ use Rattle.header.proofs.HeaderLaws.{block-inside, blocks-inside, right-of-none
 use Rattle.records.specs.Variables.{variables}
 use Rattle.nodes.specs.Nodes.{nodes}
 use Rattle.reading.specs.Cascade.{refusalOf}
-use Rattle.reading.specs.Name.{nameGiven}
+use Rattle.reading.specs.Name.{NameGiven}
 use Rattle.reading.proofs.RuleLaws.{accepted-counted}
 
 -- the answer of a step, in options
@@ -70,23 +69,17 @@ module _ (s : List ℕ) {a : Reading} (ea : saidOf a ≡ early s) where
 
 -- ---- the name
 module _ (s : List ℕ) {a : Reading} (e : saidOf a ≡ refusalOf s) where
-  pub refused-name : (i : ℕ) {r : Refusal} → a ≡ Refused r → nameGiven s i ≡ false
-  unfolding nameGiven
-  refused-name i d = rw (some-of e d)
+  pub refused-name : {i : ℕ} {r : Refusal} → a ≡ Refused r → NameGiven s i → ⊥
+  refused-name d g = let z : _≡_ {A = ℕ} 0 1 = cc (some-of e d, g .0) in omega arith
 
   module _ (p : a ≡ Accepted) where
-    pub unlisted-name : (i : ℕ) → variableCount s ≤ i → nameGiven s i ≡ false
-    unfolding nameGiven
-    unlisted-name i h = rw (none-of e p, le-ltb i (variableCount s) h)
-
-    pub listed-name : (i : ℕ) → i < variableCount s → nameGiven s i ≡ true
-    unfolding nameGiven
-    listed-name i h = rw (none-of e p, lt-ltb i (variableCount s) h)
+    pub listed-name : {i : ℕ} → i < variableCount s → NameGiven s i
+    listed-name h = (none-of e p, h)
 
     pub accepted-long : blockBytes ≤ length s
     accepted-long = block-inside (accepted-counted s (none-of e p))
 
-    pub name-inside : {i : ℕ} → i < variableCount s → variablePlace i + nameStart + 255 ≤ length s
+    pub name-inside : {i : ℕ} → i < variableCount s → variablePlace i + nameStart + mostByte ≤ length s
     name-inside h =
         let c = accepted-counted s (none-of e p) in
         let z = c .size in

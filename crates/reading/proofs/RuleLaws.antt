@@ -15,11 +15,13 @@ use Rattle.refusals.specs.declared.Refusal.{Refusal}
 use Rattle.numbers.specs.Bytes.{Bytes}
 use Rattle.meaning.specs.declared.Sort.the-variants.{Truth}
 use Rattle.meaning.specs.Rule.{Rule, domainOf}
-use Rattle.layout.specs.Limits.{blocksFor, variablePlace}
+use Rattle.kinds.proofs.ClaimLaws.{throughout-parts}
+use Rattle.layout.specs.Limits.{nameStart, blocksFor, variablePlace}
 use Rattle.layout.specs.Checks.{blockRight}
-use Rattle.layout.specs.Starts.{sortAt, startAt, Placed, Typed}
-use Rattle.layout.specs.Goal.{treeAt, Sound}
-use Rattle.layout.specs.Parts.{nodeCount, variableCount, nameSize, nameIn, table, ruleIn, LaidOut}
+use Rattle.layout.specs.Starts.{sortAt, startAt, Typed}
+use Rattle.layout.specs.Goal.{treeAt}
+use Rattle.layout.specs.Parts.{nodeCount, variableCount, nameSize, nameIn, table, ruleIn}
+use Rattle.layout.specs.LaidOut.{Placed, Sound, LaidOut}
 use Rattle.layout.specs.Fold.{ofTree}
 use Rattle.layout.specs.Sheet.{sheetOf}
 use Rattle.layout.specs.Nodes.{nodesOf}
@@ -46,13 +48,13 @@ use Rattle.findings.proofs.FindingLaws.{fits-of, fits-true, decides-same}
 use Rattle.nodes.specs.Nodes.{findingAt, nodeRefusal, nodes}
 use Rattle.reading.specs.Cascade.{refusalOf, ruleOf}
 use Rattle.reading.specs.Lawful.{FitsIn, Lawful, Allowed}
-use Rattle.reading.proofs.NodeRows.{typed-true, typed-of}
+use Rattle.reading.proofs.NodeRows.{typed-decided}
 
 -- a name has a byte
 name-long : (s : List ℕ) (i : ℕ) → Name (nameIn s i) → 1 ≤ nameSize s i
 name-long s i = go (nameSize s i)
   where
-    go : (n : ℕ) → Name (take n (drop (i + 6) s)) → 1 ≤ n
+    go : (n : ℕ) → Name (take n (drop (i + nameStart) s)) → 1 ≤ n
     go zero h = absurd h
     go (suc n) h = omega arith
 
@@ -87,11 +89,11 @@ module _ (s : List ℕ) where
   node-right n e =
       let a = neither _ _ e in
       let b = neither _ _ (a .1) in
-      record { placed = placed-of (unless-none _ 6 n (a .0)); typed = typed-true (table s) n (unless-none _ 7 n (b .0)); fits = fits-of (findingAt s n) (unless-none _ 8 n (b .1)) }
+      record { placed = placed-of (unless-none _ 6 n (a .0)); typed = typed-decided (table s) n .0 (unless-none _ 7 n (b .0)); fits = fits-of (findingAt s n) (unless-none _ 8 n (b .1)) }
 
   right-node : (n : ℕ) → NodeRight n → nodeRefusal s n ≡ none
   unfolding nodeRefusal
-  right-node n h = otherwise-none _ (unless-true 6 n (placed-true (h .placed))) ∙ (otherwise-none _ (unless-true 7 n (typed-of (table s) n (h .typed))) ∙ unless-true 8 n (fits-true (findingAt s n) (h .fits)))
+  right-node n h = otherwise-none _ (unless-true 6 n (placed-true (h .placed))) ∙ (otherwise-none _ (unless-true 7 n (typed-decided (table s) n .1 (h .typed))) ∙ unless-true 8 n (fits-true (findingAt s n) (h .fits)))
 
   record NodesRight : Type 0 where
     each : (n : ℕ) → n < nodeCount s → NodeRight n
@@ -171,7 +173,7 @@ module _ (s : List ℕ) where
           names = λ i l. rw (variable-is s i (counted l)) (accepted-kept i (counted l) .0 .name);
           distinct = λ i j l k d. accepted-kept j (counted k) .1 i l (rw (variable-is s i (omega (arith, counted k)), variable-is s j (counted k)) at d);
           domains = λ i l. rw (variable-is s i (counted l)) (accepted-kept i (counted l) .0 .order);
-          ranges = goal-throughout (FitsIn (ruleIn s)) accepted-sound (λ j l. rw (finding-is accepted-sound j l) at (accepted-fits j l));
+          ranges = throughout-parts (FitsIn (ruleIn s)) (ruleIn s .goal) .0 (goal-throughout (FitsIn (ruleIn s)) accepted-sound (λ j l. rw (finding-is accepted-sound j l) at (accepted-fits j l)));
         }
 
   -- ---- and back
@@ -193,7 +195,7 @@ module _ (s : List ℕ) where
           nodes-passed =
               right-nodes
               (record {
-                each = λ n l. record { placed = o .nodes .placed n l; typed = o .nodes .typed n l; fits = rw (finding-is (o .nodes) n l) (throughout-goal (FitsIn (ruleIn s)) (o .nodes) (w .ranges) n l) };
+                each = λ n l. record { placed = o .nodes .placed n l; typed = o .nodes .typed n l; fits = rw (finding-is (o .nodes) n l) (throughout-goal (FitsIn (ruleIn s)) (o .nodes) (throughout-parts (FitsIn (ruleIn s)) (ruleIn s .goal) .1 (w .ranges)) n l) };
                 whole = o .nodes .whole;
                 goal = o .nodes .goal;
               });

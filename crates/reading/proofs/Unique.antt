@@ -4,15 +4,16 @@ use mathlib.Core.Path.{_≡_}
 use mathlib.Core.List.{List}
 use denote.Ref.{RefT}
 use Rattle.lists.specs.Part.{SamePart}
-use Rattle.lists.proofs.PartLaws.{part-once}
+use Rattle.lists.proofs.PartLaws.{where-once}
 use Rattle.refusals.specs.declared.Reading.{Reading}
 use Rattle.refusals.specs.Said.{saidOf}
 use Rattle.refusals.proofs.SaidLaws.{said-once}
 use Rattle.reading.specs.Cascade.{refusalOf}
 use Rattle.reading.specs.Name.{NamePart}
+use Rattle.reading.proofs.NameLaws.{name-decided}
 
 pub read-once : (s : List ℕ) (r t : Reading) → saidOf r ≡ refusalOf s → saidOf t ≡ refusalOf s → r ≡ t
 read-once s r t = said-once r t
 
 pub name-once : (sheet : RefT (List ℕ)) (i : ℕ) (p q : RefT (List ℕ)) → NamePart sheet i p → NamePart sheet i q → SamePart p q
-name-once sheet i p q h g = part-once h g
+name-once sheet i p q h g = where-once (name-decided (sheet .now) i) h g

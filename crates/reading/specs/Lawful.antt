@@ -6,7 +6,7 @@ use lib.Signed.{_≤ℤ_}
 use Rattle.meaning.specs.declared.Sort.{Sort}
 use Rattle.meaning.specs.Tree.{Tree}
 use Rattle.meaning.specs.Rule.{Rule, variableOf, domainOf}
-use Rattle.kinds.specs.Rows.{Throughout}
+use Rattle.kinds.specs.Rows.{PartOf}
 use Rattle.layout.specs.Fold.{ofTree}
 use Rattle.layout.specs.WellFormed.{WellFormed}
 use Rattle.records.specs.Names.{Name}
@@ -20,7 +20,7 @@ pub record Lawful (r : Rule) : Type 0 where
   pub names : (i : ℕ) → i < length (r .variables) → Name (variableOf r i .name)
   pub distinct : (i j : ℕ) → i < j → j < length (r .variables) → variableOf r i .name ≡ variableOf r j .name → ⊥
   pub domains : (i : ℕ) → i < length (r .variables) → variableOf r i .domain .low ≤ℤ variableOf r i .domain .high
-  pub ranges : Throughout (FitsIn r) (r .goal)
+  pub ranges : (s : Sort) (u : Tree s) → PartOf u (r .goal) → FitsIn r s u
 
 -- a rule that document 01 allows
 pub record Allowed (r : Rule) : Type 0 where

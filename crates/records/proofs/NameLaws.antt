@@ -1,18 +1,18 @@
 -- What the tests of names and of variable records say, in propositions. Assumes nothing.
 use Prim.Native.Nat.{ℕ, zero, suc, _+_, _-_, _≤_, _<_}
 use mathlib.Core.Path.{_≡_, refl, ap, ap₂, _∙_}
-use mathlib.Core.Logic.{⊎-elim}
 use mathlib.Core.Bool.{false≢true}
 use mathlib.Core.List.{List, [], _∷_}
-use native.Mathlib.Nat.{eq-or-lt-of-le}
+use native.Mathlib.Decide.{decLt}
 use native.Mathlib.Omega.{arith}
 use lib.ListN.{length}
 use lib.Signed.{_≤ℤ_}
 use Rattle.numbers.specs.Bytes.{byteAt, i16At}
-use Rattle.layout.specs.Limits.{mostNameBytes, nameStart, nameField}
-use Rattle.layout.specs.Parts.{nameSize, zeroByte, nameIn, VariableLaidOut}
+use Rattle.layout.specs.Limits.{variableBytes, maxOffset, nameStart, mostNameBytes, nameEnd, nameField}
+use Rattle.layout.specs.Parts.{nameSize, zeroByte, nameIn}
+use Rattle.layout.specs.LaidOut.{VariableLaidOut}
 use Rattle.header.proofs.ZeroLaws.{zeros-at, zeros-of}
-use Rattle.records.specs.Variables.{isLetter, isNameByte, allNameBytes, nameRight, sameBytes, variableRight}
+use Rattle.records.specs.Variables.{isLetter, isNameByte, allNameBytes, nameRight, variableRight}
 use Rattle.records.specs.Names.{Letter, NameByte, Name, VariableRule}
 use Rattle.lists.proofs.Decided.{Decides, decides-as, decides-and, decides-or, decides-le, decides-eq}
 use Rattle.numbers.proofs.OrderTests.{decides-leZ}
@@ -42,52 +42,47 @@ unfolding nameRight
 name-decided [] = (λ e. false≢true e, λ n. absurd n)
 name-decided (b ∷ bs) = decides-and (letter-decided b) (name-bytes-decided bs)
 
-pub same-decided : (k l : List ℕ) → Decides (sameBytes k l) (k ≡ l)
-unfolding sameBytes
-same-decided [] [] = (λ e. refl, λ e. refl)
-same-decided [] (c ∷ l) = (λ e. absurd (false≢true e), λ e. absurd (omega (arith, ap length e)))
-same-decided (b ∷ k) [] = (λ e. absurd (false≢true e), λ e. absurd (omega (arith, ap length e)))
-same-decided (b ∷ k) (c ∷ l) = decides-as (decides-and (decides-eq b c) (same-decided k l)) (λ w. ap₂ _∷_ (w .0) (w .1)) (λ e. (cc, cc))
-
 module _ (s : List ℕ) (i : ℕ) where
   -- every byte from the name's end to the record's
   abbrev Rest : Type 0
-  Rest = (k : ℕ) → i + 6 + nameSize s i ≤ k → k < i + 24 → byteAt s k ≡ 0
+  Rest = (k : ℕ) → i + nameStart + nameSize s i ≤ k → k < i + variableBytes → byteAt s k ≡ 0
 
   rest-at : VariableRule s i → Rest
   rest-at v k m h =
-      let l : k ≤ i + 23 = omega arith in
-      ⊎-elim (λ e. ap (byteAt s) e ∙ v .end .1) (λ g. let n : k ≤ i + 22 = omega arith in ⊎-elim (λ e. ap (byteAt s) e ∙ v .end .0) named (eq-or-lt-of-le n)) (eq-or-lt-of-le l)
+      go (decLt k (i + nameEnd))
     where
-      named : k < i + 22 → byteAt s k ≡ 0
-      named n =
-          let e : k ≡ i + 6 + (k - (i + 6)) = omega arith in
-          ap (byteAt s) e ∙ v .past (k - (i + 6)) (omega arith) (omega arith)
+      go : Dec (k < i + nameEnd) → byteAt s k ≡ 0
+      go (yes n) =
+          let e : k ≡ i + nameStart + (k - (i + nameStart)) = omega arith in
+          ap (byteAt s) e ∙ v .past (k - (i + nameStart)) (omega arith) (omega arith)
+      go (no n) =
+          let e : k ≡ i + (k - i) = omega arith in
+          ap (byteAt s) e ∙ v .end (k - i) (omega arith) (omega arith)
 
   -- the layout that the rules give
   pub laid-out : VariableRule s i → VariableLaidOut s i
   laid-out v = record {
     short = v .short;
     gap = v .gap;
-    rest = λ k l. rest-at v (i + 6 + nameSize s i + k) (omega arith) (omega (arith, v .short));
+    rest = λ k l. rest-at v (i + nameStart + nameSize s i + k) (omega arith) (omega (arith, v .short));
   }
 
   -- and the rules, from the layout and what it leaves open
-  pub rule-of : i16At s i ≤ℤ i16At s (i + 2) → 1 ≤ nameSize s i → Name (nameIn s i) → VariableLaidOut s i → VariableRule s i
+  pub rule-of : i16At s i ≤ℤ i16At s (i + maxOffset) → 1 ≤ nameSize s i → Name (nameIn s i) → VariableLaidOut s i → VariableRule s i
   rule-of order long name v = record {
     order = order;
     long = long;
     short = v .short;
     gap = v .gap;
     name = name;
-    past = λ j m h. rest (i + 6 + j) (omega arith) (omega arith);
-    end = (rest (i + 22) (omega (arith, v .short)) (omega arith), rest (i + 23) (omega (arith, v .short)) (omega arith));
+    past = λ j m h. rest (i + nameStart + j) (omega arith) (omega arith);
+    end = λ j m h. rest (i + j) (omega (arith, v .short)) (omega arith);
   }
     where
       rest : Rest
       rest k m h =
-          let e : k ≡ i + 6 + nameSize s i + (k - (i + 6 + nameSize s i)) = omega arith in
-          ap (byteAt s) e ∙ v .rest (k - (i + 6 + nameSize s i)) (omega arith)
+          let e : k ≡ i + nameStart + nameSize s i + (k - (i + nameStart + nameSize s i)) = omega arith in
+          ap (byteAt s) e ∙ v .rest (k - (i + nameStart + nameSize s i)) (omega arith)
 
   pub variable-decided : Decides (variableRight s i) (VariableRule s i)
   unfolding variableRight
@@ -97,7 +92,7 @@ module _ (s : List ℕ) (i : ℕ) where
       (decides-and
       (decides-and
       (decides-and
-      (decides-and (decides-leZ (i16At s i) (i16At s (i + 2))) (decides-le 1 (nameSize s i)))
+      (decides-and (decides-leZ (i16At s i) (i16At s (i + maxOffset))) (decides-le 1 (nameSize s i)))
       (decides-le (nameSize s i) mostNameBytes))
       (decides-eq (zeroByte s i) 0))
       (name-decided (nameIn s i)))

@@ -11,11 +11,12 @@ use lib.Seq.{drop-cons}
 use lib.Signed.{leZ}
 use Rattle.lists.specs.Places.{allBelow}
 use Rattle.numbers.specs.Bytes.{i16At}
-use Rattle.layout.specs.Limits.{mostNameBytes, variablePlace}
+use Rattle.layout.specs.Limits.{maxOffset, nameStart, mostNameBytes, nameField, variablePlace}
 use Rattle.layout.specs.Parts.{nameSize, zeroByte, nameIn}
 use Rattle.header.specs.Header.{zeros}
 use Rattle.lists.proofs.BelowLaws.{all-pass, all-stop}
-use Rattle.records.specs.Variables.{isLetter, isNameByte, allNameBytes, nameRight, sameBytes, variableRight, fresh}
+use Rattle.lists.specs.Names.{sameBytes}
+use Rattle.records.specs.Variables.{isLetter, isNameByte, allNameBytes, nameRight, variableRight, fresh}
 use Rattle.records.specs.Names.{VariableRule}
 use Rattle.lists.proofs.Decided.{denied}
 use Rattle.records.proofs.NameLaws.{variable-decided}
@@ -95,6 +96,6 @@ module _ (s : List ℕ) (i : ℕ) where
   variable-wrong = denied (variable-decided s i) .1
 
   -- after the other tests only the bytes behind the name are left
-  pub variable-left : leZ (i16At s i) (i16At s (i + 2)) ≡ true → 1 ≤ nameSize s i → nameSize s i ≤ mostNameBytes → zeroByte s i ≡ 0 → nameRight (nameIn s i) ≡ true → variableRight s i ≡ zeros s (i + 6 + nameSize s i) (18 - nameSize s i)
+  pub variable-left : leZ (i16At s i) (i16At s (i + maxOffset)) ≡ true → 1 ≤ nameSize s i → nameSize s i ≤ mostNameBytes → zeroByte s i ≡ 0 → nameRight (nameIn s i) ≡ true → variableRight s i ≡ zeros s (i + nameStart + nameSize s i) (nameField - nameSize s i)
   unfolding variableRight
   variable-left order long short gap name = rw (order, le-leb _ _ long, le-leb _ _ short, eq-eqb _ _ gap, name)

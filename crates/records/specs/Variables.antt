@@ -1,4 +1,4 @@
--- Refusal 5 (document 01, "Variable record"): the lowest variable record that breaks a rule or repeats a lower one's name.
+-- Follows the code: refusal 5 as tests, which say what `Names` says in propositions.
 use Prim.Native.Nat.{ℕ, _+_, _-_}
 use mathlib.Core.Bool.{Bool, true, false, not, _&&_, _||_}
 use mathlib.Core.List.{List, [], _∷_}
@@ -7,14 +7,14 @@ use lib.Dec.{eqb, leb}
 use lib.Signed.{leZ}
 use Rattle.lists.specs.Places.{allBelow}
 use Rattle.lists.specs.First.{first}
+use Rattle.lists.specs.Names.{sameBytes}
 use Rattle.refusals.specs.declared.Refusal.{Refusal}
 use Rattle.numbers.specs.Bytes.{i16At}
-use Rattle.layout.specs.Limits.{mostNameBytes, nameStart, nameField, variablePlace}
+use Rattle.layout.specs.Limits.{maxOffset, nameStart, mostNameBytes, nameField, variablePlace}
 use Rattle.layout.specs.Parts.{variableCount, nameSize, zeroByte, nameIn}
 use Rattle.refusals.specs.Said.{unless}
 use Rattle.header.specs.Header.{zeros}
 
--- ASCII: A to Z and a to z; 0 to 9; the underscore
 unfoldable pub isLetter : ℕ → Bool
 isLetter b = leb 65 b && leb b 90 || leb 97 b && leb b 122
 
@@ -25,22 +25,14 @@ unfoldable pub allNameBytes : List ℕ → Bool
 allNameBytes [] = true
 allNameBytes (b ∷ bs) = isNameByte b && allNameBytes bs
 
--- a name is a letter, then letters, digits or underscores
 unfoldable pub nameRight : List ℕ → Bool
 nameRight [] = false
 nameRight (b ∷ bs) = isLetter b && allNameBytes bs
 
--- two names are the same, byte for byte
-unfoldable pub sameBytes : List ℕ → List ℕ → Bool
-sameBytes [] [] = true
-sameBytes [] (c ∷ cs) = false
-sameBytes (b ∷ bs) [] = false
-sameBytes (b ∷ bs) (c ∷ cs) = eqb b c && sameBytes bs cs
-
 -- the record at place i: min ≤ max, a name of 1 to 16 bytes that is a name, the zero byte, and zeros behind the name to the record's end
 unfoldable pub variableRight : List ℕ → ℕ → Bool
 variableRight s i =
-    leZ (i16At s i) (i16At s (i + 2))
+    leZ (i16At s i) (i16At s (i + maxOffset))
     && leb 1 (nameSize s i)
     && leb (nameSize s i) mostNameBytes
     && eqb (zeroByte s i) 0

@@ -6,20 +6,30 @@ ghost use lib.Dec.{leb};
 ghost use lib.ListN.{length};
 ghost use lib.Signed.{leZ};
 ghost use Rattle.lists.specs.Part.{PartAt};
-ghost use Rattle.numbers.specs.Bytes.{i16At};
-ghost use Rattle.layout.specs.Limits.{blockBytes, nameStart, mostVariables, nodeBytes, variablePlace, nodePlace};
+ghost use Rattle.numbers.specs.Bytes.{mostByte, i16At};
+ghost use Rattle.layout.specs.Limits.{blockBytes, maxOffset, nameStart, mostVariables, nodeBytes, variablePlace, nodePlace};
 ghost use Rattle.layout.specs.Parts.{variableCount, variableAt, recordIn, nameSize, zeroByte, nameIn, table};
 ghost use Rattle.refusals.specs.Said.{saidOf};
-ghost use Rattle.records.specs.Variables.{isLetter, isNameByte, nameRight, sameBytes, variableRight, fresh, variables};
+ghost use Rattle.lists.specs.Names.{sameBytes};
+ghost use Rattle.records.specs.Variables.{isLetter, isNameByte, nameRight, variableRight, fresh, variables};
 use kinds::Record;
+use layout::A_OFFSET;
+use layout::B_OFFSET;
 use layout::BLOCK_BYTES;
+use layout::C_OFFSET;
 use layout::HEADER_BYTES;
+use layout::MAX_OFFSET;
 use layout::MOST_NAME_BYTES;
 use layout::NAME_FIELD;
+use layout::NAME_SIZE_OFFSET;
 use layout::NAME_START;
 use layout::NODE_BYTES;
 use layout::NODES_IN_BLOCK;
+use layout::SPARE_OFFSET;
+use layout::SPARE_START;
+use layout::VALUE_OFFSET;
 use layout::VARIABLE_BYTES;
+use layout::ZERO_OFFSET;
 use numbers::NodeNumber;
 use numbers::Range;
 use numbers::VariableNumber;
@@ -86,10 +96,10 @@ pub fn same_bytes(a: &[u8], b: &[u8]) -> bool
 
 // The name in the variable record at a place, as the very part of the sheet.
 pub fn name_in(sheet: &[u8], at: usize) -> &[u8]
-    requires { ⌜ at + nameStart + 255 ≤ length (now sheet) ⌝ }
+    requires { ⌜ at + nameStart + mostByte ≤ length (now sheet) ⌝ }
     ensures { λ r. ⌜ PartAt (sheet .entry) r (at + nameStart) (nameSize (now (sheet .entry)) at) ⌝ }
 {
-    let size = numbers::byte_at(sheet, at + 4) as usize;
+    let size = numbers::byte_at(sheet, at + NAME_SIZE_OFFSET) as usize;
     let start = at + NAME_START;
     let end = start + size;
     &sheet[start..end]
@@ -104,10 +114,10 @@ pub fn variable_place(n: VariableNumber) -> usize
 
 // Whether min ≤ max in the variable record at a place.
 fn ordered(sheet: &[u8], at: usize) -> bool
-    requires { ⌜ at + 4 ≤ length (now sheet) ⌝ }
-    ensures { λ r. ⌜ r ≡ leZ (i16At (now (sheet .entry)) at) (i16At (now (sheet .entry)) (at + 2)) ⌝ }
+    requires { ⌜ at + nameStart ≤ length (now sheet) ⌝ }
+    ensures { λ r. ⌜ r ≡ leZ (i16At (now (sheet .entry)) at) (i16At (now (sheet .entry)) (at + maxOffset)) ⌝ }
 {
-    numbers::i16_at(sheet, at) <= numbers::i16_at(sheet, at + 2)
+    numbers::i16_at(sheet, at) <= numbers::i16_at(sheet, at + MAX_OFFSET)
 }
 
 // The byte of the variable record at a place that must be zero.
@@ -115,18 +125,18 @@ fn zero_byte(sheet: &[u8], at: usize) -> u8
     requires { ⌜ at + nameStart ≤ length (now sheet) ⌝ }
     ensures { λ r. ⌜ r ≡ zeroByte (now (sheet .entry)) at ⌝ }
 {
-    sheet[at + 5]
+    sheet[at + ZERO_OFFSET]
 }
 
 // Whether the variable record at a place keeps its own rules.
 fn variable_right(sheet: &[u8], at: usize) -> bool
-    requires { ⌜ at + nameStart + 255 ≤ length (now sheet) ⌝ }
+    requires { ⌜ at + nameStart + mostByte ≤ length (now sheet) ⌝ }
     ensures { λ r. ⌜ r ≡ variableRight (now (sheet .entry)) at ⌝ }
 {
     if !ordered(sheet, at) {
         return false;
     }
-    let size = numbers::byte_at(sheet, at + 4) as usize;
+    let size = numbers::byte_at(sheet, at + NAME_SIZE_OFFSET) as usize;
     if size < 1 {
         return false;
     }
@@ -203,7 +213,7 @@ pub fn domain(sheet: &[u8], n: VariableNumber) -> Range
 {
     let at = variable_place(n);
     let low = numbers::i16_at(sheet, at);
-    let high = numbers::i16_at(sheet, at + 2);
+    let high = numbers::i16_at(sheet, at + MAX_OFFSET);
     numbers::range_of(low, high)
 }
 
@@ -220,11 +230,15 @@ fn spare_in(sheet: &[u8], at: usize) -> u16
     requires { ⌜ at + nodeBytes ≤ length (now sheet) ⌝ }
     ensures { λ r. ⌜ r ≡ recordIn (now (sheet .entry)) at .spare ⌝ }
 {
-    let low = numbers::byte_at(sheet, at + 1)
-        + numbers::byte_at(sheet, at + 10)
-        + numbers::byte_at(sheet, at + 11);
-    let mid = low + numbers::byte_at(sheet, at + 12) + numbers::byte_at(sheet, at + 13);
-    mid + numbers::byte_at(sheet, at + 14) + numbers::byte_at(sheet, at + 15)
+    let low = numbers::byte_at(sheet, at + SPARE_OFFSET)
+        + numbers::byte_at(sheet, at + SPARE_START)
+        + numbers::byte_at(sheet, at + (SPARE_START + 1));
+    let mid = low
+        + numbers::byte_at(sheet, at + (SPARE_START + 2))
+        + numbers::byte_at(sheet, at + (SPARE_START + 3));
+    mid
+        + numbers::byte_at(sheet, at + (SPARE_START + 4))
+        + numbers::byte_at(sheet, at + (SPARE_START + 5))
 }
 
 // A node's record.
@@ -234,10 +248,10 @@ pub fn record_at(sheet: &[u8], n: NodeNumber) -> Record
 {
     let at = node_place(n);
     let kind = kinds::kind_of(sheet[at]);
-    let a = numbers::u16_at(sheet, at + 2);
-    let b = numbers::u16_at(sheet, at + 4);
-    let c = numbers::u16_at(sheet, at + 6);
-    let value = numbers::u16_at(sheet, at + 8);
+    let a = numbers::u16_at(sheet, at + A_OFFSET);
+    let b = numbers::u16_at(sheet, at + B_OFFSET);
+    let c = numbers::u16_at(sheet, at + C_OFFSET);
+    let value = numbers::u16_at(sheet, at + VALUE_OFFSET);
     let spare = spare_in(sheet, at);
     Record {
         kind,

@@ -1,15 +1,14 @@
 -- A row after another answer: refusal n at p, where m is more than k. Assumes nothing.
 use Prim.Native.Nat.{ℕ, _≤_, _<_}
-use mathlib.Core.Path.{_≡_, refl, _∙_}
-use mathlib.Core.Logic.{_⊎_, inl, inr}
+use mathlib.Core.Path.{_≡_, _∙_}
 use mathlib.Core.Option.{Option, none, some}
-use borrow.Author.Tests.{leb-true, leb-false, le-leb, lt-leb}
+use borrow.Author.Tests.{leb-true, le-leb, lt-leb}
 use lib.Dec.{leb}
 use Rattle.lists.specs.First.{_otherwise_}
 use Rattle.lists.proofs.FirstLaws.{neither, otherwise-none}
 use Rattle.refusals.specs.declared.Refusal.{Refusal}
 use Rattle.refusals.specs.Said.{unless}
-use Rattle.refusals.proofs.SaidLaws.{unless-none, unless-true, unless-false, unless-some}
+use Rattle.refusals.proofs.SaidLaws.{unless-none, unless-true, unless-false}
 
 -- no answer: the first is none, and m is at most k
 pub passes : {a : Option Refusal} (m k n p : ℕ) → a ≡ none → m ≤ k → a otherwise unless (leb m k) n p ≡ none
@@ -21,7 +20,3 @@ passed a m k n p e = let w = neither a _ e in (w .0, leb-true m k (unless-none _
 -- the row's answer: the first is none, and m is more than k
 pub stops : {a : Option Refusal} (m k n p : ℕ) → a ≡ none → k < m → a otherwise unless (leb m k) n p ≡ some (record { number = n; place = p })
 stops m k n p e h = otherwise-none _ e ∙ unless-false n p (lt-leb m k h)
-
-pub stopped : (a : Option Refusal) (m k n p : ℕ) {r : Refusal} → a otherwise unless (leb m k) n p ≡ some r → (a ≡ some r) ⊎ ((a ≡ none) × (k < m) × (r ≡ record { number = n; place = p }))
-stopped (some x) m k n p e = inl e
-stopped none m k n p e = let w = unless-some (leb m k) n p e in inr (refl, leb-false m k (w .0), w .1)

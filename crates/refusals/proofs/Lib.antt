@@ -1,2 +1,4 @@
 pub mod SaidLaws
 pub mod AfterLaws
+pub mod RowLaws
+pub mod BoundLaws

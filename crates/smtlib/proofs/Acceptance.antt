@@ -6,15 +6,18 @@ use mathlib.Core.List.{List, [], _∷_, _++_}
 use mathlib.Core.Option.{Option, none, some}
 use Prim.Native.Nat.{ℕ}
 use native.Mathlib.Omega.{arith}
-use Rattle.smtlib.specs.Tokens.{Atom, symbol, reserved, numeral, hexadecimal, binary, keyword, same}
-use Rattle.smtlib.specs.Sexps.{Sexp, atom, nil, cons, symbolIn, sexpsOf}
-use Rattle.smtlib.specs.Values.{Sort, bool, Val, Value, truth, bits, rejected, sortOf, onTruth, onTruths, onBits, onWidth, onSort, onChoice, on0, on1, on2, on3, fromLeft, fromRight, both, inChain, withEach, inPairs}
-use Rattle.smtlib.specs.Theory.{Attribute, two, left-assoc, right-assoc, chained, pairs, Signature, constant, truths1, truths2, relation, choice, vectors1, vectors2, order, Meaning, byAttribute, applied, Row, function}
-use Rattle.smtlib.specs.Terms.{Environment, symbolValue, atomValue, application, headed, value, values}
-use Rattle.smtlib.specs.Commands.{Declaration, Command, setLogic, declareFun, assertion, checkSat, exit, unknown, exactly0, commandOf}
-use Rattle.smtlib.specs.Settings.{valueAt, Fits, environment, zeros}
-use Rattle.smtlib.specs.Scripts.{Script, isBool, fresh, formula, gather, begun, scriptIn}
-use Rattle.smtlib.specs.Satisfaction.{andThen, scriptOf}
+use Rattle.lists.specs.Names.{sameBytes}
+use Rattle.lists.specs.Few.{exactly0, exactly1, exactly2, exactly3}
+use Rattle.lists.specs.First.{andThen}
+use Rattle.smtlib.specs.Tokens.{Atom, symbol, reserved, numeral, hexadecimal, binary, keyword}
+use Rattle.smtlib.specs.Sexps.{Sexp, atom, nil, cons, symbolIn, items, sexpsOf}
+use Rattle.smtlib.specs.Values.{Sort, bool, Val, Value, truth, bits, rejected, sortOf, onTruth, onTruths, onBits, onWidth, onSort, onChoice, fromLeft, fromRight, both, inChain, withEach, inPairs}
+use Rattle.smtlib.specs.Theory.{Attribute, two, left-assoc, right-assoc, chained, pairs, Signature, constant, truths1, truths2, relation, choice, vectors1, vectors2, order, Meaning, byAttribute, applied, FunctionRow, function}
+use Rattle.smtlib.specs.Terms.{Environment, symbolValue, atomValue, application, value, values}
+use Rattle.smtlib.specs.Commands.{Declaration, Command, declareFun, assertion, checkSat, exit, unknown, commandOf}
+use Rattle.smtlib.specs.Settings.{valueAt, Assigns, environment, zeros}
+use Rattle.smtlib.specs.Scripts.{Script, isBool, declarable, formula, gather, setsLogic, scriptIn}
+use Rattle.smtlib.specs.Satisfaction.{scriptOf}
 use Rattle.smtlib.proofs.SortLaws.{formula-sort}
 
 -- ---- what has a rejected argument is rejected
@@ -52,16 +55,16 @@ sort-strict f = record { left = λ b. refl; right = by }
     by (bits m s) = refl
     by rejected = refl
 
-on0-rejected : (vs : List Value) → on0 rejected vs ≡ rejected
+on0-rejected : (vs : List Value) → exactly0 rejected rejected vs ≡ rejected
 on0-rejected [] = refl
 on0-rejected (v ∷ vs) = refl
 
-on0-broken : (a : Value) {vs : List Value} → Broken vs → on0 a vs ≡ rejected
+on0-broken : (a : Value) {vs : List Value} → Broken vs → exactly0 rejected a vs ≡ rejected
 on0-broken a here = refl
 on0-broken a (there k) = refl
 
-on1-broken : (f : Value → Value) → f rejected ≡ rejected → {vs : List Value} → Broken vs → on1 f vs ≡ rejected
-on1-broken f h (here {vs}) = ap (λ (a : Value). on0 a vs) h ∙ on0-rejected vs
+on1-broken : (f : Value → Value) → f rejected ≡ rejected → {vs : List Value} → Broken vs → exactly1 rejected f vs ≡ rejected
+on1-broken f h (here {vs}) = ap (λ (a : Value). exactly0 rejected a vs) h ∙ on0-rejected vs
 on1-broken f h (there {v} k) = on0-broken (f v) k
 
 choice-left : (f : (s : Sort) → Bool → Val s → Val s → Val s) (c b : Value) → onChoice f c rejected b ≡ rejected
@@ -123,9 +126,9 @@ module _ (f : Value → Value → Value) (h : Strict2 f) where
   each-rest a b (here {vs}) = ap (both (f a b)) (each-second a vs) ∙ both-right (f a b)
   each-rest a b (there {v} k) = ap (both (f a b)) (each-rest a v k) ∙ both-right (f a b)
 
-  two-broken : {vs : List Value} → Broken vs → on2 f vs ≡ rejected
+  two-broken : {vs : List Value} → Broken vs → exactly2 rejected f vs ≡ rejected
   two-broken (here {vs = []}) = refl
-  two-broken (here {vs = b ∷ vs}) = ap (λ (a : Value). on0 a vs) (h .left b) ∙ on0-rejected vs
+  two-broken (here {vs = b ∷ vs}) = ap (λ (a : Value). exactly0 rejected a vs) (h .left b) ∙ on0-rejected vs
   two-broken (there {v} k) = on1-broken (f v) (h .right v) k
 
   pairs-first : (b : Value) (vs : List Value) → inPairs f rejected b vs ≡ rejected
@@ -159,12 +162,12 @@ module _ (f : Value → Value → Value) (h : Strict2 f) where
   attribute-broken pairs (there {v} (here {vs})) = pairs-second v vs
   attribute-broken pairs (there {v} (there {v = w} k)) = pairs-rest v w k
 
-three-broken : (f : (s : Sort) → Bool → Val s → Val s → Val s) {vs : List Value} → Broken vs → on3 (onChoice f) vs ≡ rejected
+three-broken : (f : (s : Sort) → Bool → Val s → Val s → Val s) {vs : List Value} → Broken vs → exactly3 rejected (onChoice f) vs ≡ rejected
 three-broken f (here {vs = []}) = refl
 three-broken f (here {vs = a ∷ []}) = refl
 three-broken f (here {vs = a ∷ b ∷ vs}) = on0-rejected vs
 three-broken f (there {v} (here {vs = []})) = refl
-three-broken f (there {v} (here {vs = b ∷ vs})) = ap (λ (x : Value). on0 x vs) (choice-left f v b) ∙ on0-rejected vs
+three-broken f (there {v} (here {vs = b ∷ vs})) = ap (λ (x : Value). exactly0 rejected x vs) (choice-left f v b) ∙ on0-rejected vs
 three-broken f (there {v} (there {v = w} k)) = on1-broken (onChoice f v w) (choice-right f v w) k
 
 applied-broken : (g : Signature) (f : Meaning g) {vs : List Value} → Broken vs → applied g f vs ≡ rejected
@@ -177,7 +180,7 @@ applied-broken vectors1 f k = on1-broken (onBits f) refl k
 applied-broken (vectors2 t) f k = attribute-broken (onWidth (λ m x y. bits m (f m x y))) (width-strict (λ m x y. bits m (f m x y))) t k
 applied-broken (order t) f k = attribute-broken (onWidth (λ m x y. truth (f m x y))) (width-strict (λ m x y. truth (f m x y))) t k
 
-application-broken : (r : Option Row) {vs : List Value} → Broken vs → application r vs ≡ rejected
+application-broken : (r : Option FunctionRow) {vs : List Value} → Broken vs → application r vs ≡ rejected
 application-broken none k = refl
 application-broken (some r) here = applied-broken (r .signature) (r .meaning) here
 application-broken (some r) (there k) = applied-broken (r .signature) (r .meaning) (there k)
@@ -185,7 +188,7 @@ application-broken (some r) (there k) = applied-broken (r .signature) (r .meanin
 -- ---- where more is declared, what was not rejected stays as it was
 
 module _ (env env′ : Environment) (h : (n : List ℕ) → (env n ≡ rejected) ⊎ (env′ n ≡ env n)) where
-  symbol-more : (n : List ℕ) (r : Option Row) → (symbolValue r (env n) ≡ rejected) ⊎ (symbolValue r (env′ n) ≡ symbolValue r (env n))
+  symbol-more : (n : List ℕ) (r : Option FunctionRow) → (symbolValue r (env n) ≡ rejected) ⊎ (symbolValue r (env′ n) ≡ symbolValue r (env n))
   symbol-more n none = h n
   symbol-more n (some r) = inr refl
 
@@ -204,7 +207,7 @@ module _ (env env′ : Environment) (h : (n : List ℕ) → (env n ≡ rejected)
     value-more : (e : Sexp) → (value env e ≡ rejected) ⊎ (value env′ e ≡ value env e)
     value-more (atom a) = atom-more a
     value-more nil = inr refl
-    value-more (cons f s) = ⊎-elim (λ k. inl (application-broken (headed (symbolIn f)) k)) (λ e. inr (ap (application (headed (symbolIn f))) e)) (values-more s)
+    value-more (cons f s) = ⊎-elim (λ k. inl (application-broken (andThen (symbolIn f) function) k)) (λ e. inr (ap (application (andThen (symbolIn f) function)) e)) (values-more s)
 
     values-more : (s : Sexp) → Broken (values env s) ⊎ (values env′ s ≡ values env s)
     values-more (atom a) = inr refl
@@ -223,7 +226,7 @@ one-more : (ds : List Declaration) (d : Declaration) (n : List ℕ)
     → (environment ds (zeros ds) n ≡ rejected) ⊎ (environment (ds ++ (d ∷ [])) (zeros (ds ++ (d ∷ []))) n ≡ environment ds (zeros ds) n)
 unfolding environment
 one-more [] d n = inl refl
-one-more (c ∷ ds) d n = by (same (c .name) n) (one-more ds d n)
+one-more (c ∷ ds) d n = by (sameBytes (c .name) n) (one-more ds d n)
   where
     by : (q : Bool) {a b : Value} → (b ≡ rejected) ⊎ (a ≡ b) → (either q (valueAt (c .sort) 0) b ≡ rejected) ⊎ (either q (valueAt (c .sort) 0) a ≡ either q (valueAt (c .sort) 0) b)
     by true w = inr refl
@@ -256,7 +259,7 @@ gathered (atom a) ds es asked p f h = absurd (no-script h)
 gathered nil ds es asked p f h = absurd (no-script h)
 gathered (cons c s) ds es asked p f h = by (commandOf c) refl (gathered s)
   where
-    ended : (q : Bool) (r : Sexp) → elim q as (λ _. Option Script) [ true ↦ exactly0 none (some (record { declares = ds; asserts = es })) r | false ↦ none ] ≡ some p → Formulas (p .declares) (p .asserts)
+    ended : (q : Bool) (r : Sexp) → elim q as (λ _. Option Script) [ true ↦ exactly0 none (some (record { declares = ds; asserts = es })) (items r) | false ↦ none ] ≡ some p → Formulas (p .declares) (p .asserts)
     ended true nil e =
         let w : record { declares = ds; asserts = es } ≡ p = cc in
         subst (λ (x : Script). Formulas (x .declares) (x .asserts)) w f
@@ -265,10 +268,9 @@ gathered (cons c s) ds es asked p f h = by (commandOf c) refl (gathered s)
     ended false r e = absurd (no-script e)
 
     by : (k : Command) → commandOf c ≡ k → ((ds : List Declaration) (es : List Sexp) (asked : Bool) (p : Script) → Formulas ds es → gather ds es asked s ≡ some p → Formulas (p .declares) (p .asserts)) → Formulas (p .declares) (p .asserts)
-    by setLogic e more = absurd (no-script (rw (e, gather) at h))
-    by (declareFun d) e more = declares (fresh ds (d .name)) refl
+    by (declareFun d) e more = declares (declarable ds (d .name)) refl
       where
-        declares : (q : Bool) → fresh ds (d .name) ≡ q → Formulas (p .declares) (p .asserts)
+        declares : (q : Bool) → declarable ds (d .name) ≡ q → Formulas (p .declares) (p .asserts)
         declares true t = more (ds ++ (d ∷ [])) es asked p (formulas-more ds d es f) (rw (e, gather, t) at h)
         declares false t = absurd (no-script (rw (e, gather, t) at h))
     by (assertion t) e more = asserts (formula ds t) refl
@@ -280,19 +282,15 @@ gathered (cons c s) ds es asked p f h = by (commandOf c) refl (gathered s)
     by exit e more = ended asked s (rw (e, gather) at h)
     by unknown e more = absurd (no-script (rw (e, gather) at h))
 
-begun-formulas : (k : Command) (s : Sexp) (p : Script) → begun k s ≡ some p → Formulas (p .declares) (p .asserts)
-begun-formulas setLogic s p h = gathered s [] [] false p tt h
-begun-formulas (declareFun d) s p h = absurd (no-script h)
-begun-formulas (assertion e) s p h = absurd (no-script h)
-begun-formulas checkSat s p h = absurd (no-script h)
-begun-formulas exit s p h = absurd (no-script h)
-begun-formulas unknown s p h = absurd (no-script h)
+begun-formulas : (q : Bool) (s : Sexp) (p : Script) → elim q as (λ _. Option Script) [ true ↦ gather [] [] false s | false ↦ none ] ≡ some p → Formulas (p .declares) (p .asserts)
+begun-formulas true s p h = gathered s [] [] false p tt h
+begun-formulas false s p h = absurd (no-script h)
 
 script-formulas : (s : Sexp) (p : Script) → scriptIn s ≡ some p → Formulas (p .declares) (p .asserts)
 unfolding scriptIn
 script-formulas (atom a) p h = absurd (no-script h)
 script-formulas nil p h = absurd (no-script h)
-script-formulas (cons c s) p h = begun-formulas (commandOf c) s p h
+script-formulas (cons c s) p h = begun-formulas (setsLogic c) s p h
 
 -- every assertion is a formula of all that is declared
 pub accepted-formulas : (bytes : List ℕ) {p : Script} → scriptOf bytes ≡ some p → Formulas (p .declares) (p .asserts)
@@ -308,9 +306,9 @@ abbrev pub AllBool : List Declaration → List ℕ → List Sexp → Type 0
 AllBool ds s [] = Unit {0}
 AllBool ds s (e ∷ es) = (sortOf (value (environment ds s) e) ≡ some bool) × AllBool ds s es
 
-all-bool : (ds : List Declaration) (s : List ℕ) → Fits ds s → (es : List Sexp) → Formulas ds es → AllBool ds s es
+all-bool : (ds : List Declaration) (s : List ℕ) → Assigns ds s → (es : List Sexp) → Formulas ds es → AllBool ds s es
 all-bool ds s f [] h = tt
 all-bool ds s f (e ∷ es) h = (formula-sort ds e (h .0) s f, all-bool ds s f es (h .1))
 
-pub accepted-sorted : (bytes : List ℕ) {p : Script} → scriptOf bytes ≡ some p → (s : List ℕ) → Fits (p .declares) s → AllBool (p .declares) s (p .asserts)
+pub accepted-sorted : (bytes : List ℕ) {p : Script} → scriptOf bytes ≡ some p → (s : List ℕ) → Assigns (p .declares) s → AllBool (p .declares) s (p .asserts)
 accepted-sorted bytes {p} h s f = all-bool (p .declares) s f (p .asserts) (accepted-formulas bytes h)

@@ -10,14 +10,17 @@ use lib.Dec.{eqb}
 use lib.ListN.{length}
 use lib.Pow.{pow-pos}
 use borrow.Author.Tests.{eqb-true}
-use Rattle.smtlib.specs.Tokens.{Atom, symbol, reserved, numeral, hexadecimal, binary, keyword, same}
+use Rattle.lists.specs.Names.{sameBytes, entry}
+use Rattle.lists.specs.Few.{exactly0}
+use Rattle.lists.specs.First.{andThen}
+use Rattle.smtlib.specs.Tokens.{Atom, symbol, reserved, numeral, hexadecimal, binary, keyword}
 use Rattle.smtlib.specs.Sexps.{Sexp, atom, nil, cons, symbolIn}
 use Rattle.smtlib.specs.BitVectors.{fromBits, bvnot, bvand, bvor, bvneg, bvadd, bvmul, bvsub}
-use Rattle.smtlib.specs.Values.{Sort, bool, bitVec, Val, Value, truth, bits, rejected, sorted, onTruth, onTruths, onBits, onWidth, onSort, onChoice, on0, fromLeft, fromRight, both, inChain, withEach, inPairs}
-use Rattle.smtlib.specs.Theory.{Attribute, two, left-assoc, right-assoc, chained, pairs, Signature, constant, truths1, truths2, relation, choice, vectors1, vectors2, order, Meaning, byAttribute, applied, Row, functions, rowIn, function}
-use Rattle.smtlib.specs.Terms.{numberFrom, Environment, symbolValue, atomValue, application, headed, value, values}
+use Rattle.smtlib.specs.Values.{Sort, bool, bitVec, Val, Value, truth, bits, rejected, sorted, onTruth, onTruths, onBits, onWidth, onSort, onChoice, fromLeft, fromRight, both, inChain, withEach, inPairs}
+use Rattle.smtlib.specs.Theory.{Attribute, two, left-assoc, right-assoc, chained, pairs, Signature, constant, truths1, truths2, relation, choice, vectors1, vectors2, order, Meaning, byAttribute, applied, FunctionRow, functions, function}
+use Rattle.smtlib.specs.Terms.{numberFrom, Environment, symbolValue, atomValue, application, value, values}
 use Rattle.smtlib.specs.Commands.{Declaration}
-use Rattle.smtlib.specs.Settings.{sizeOf, valueAt, Fits, environment}
+use Rattle.smtlib.specs.Settings.{sortSize, valueAt, Assigns, environment}
 use Rattle.smtlib.proofs.Spelling.{Digits}
 use Rattle.smtlib.proofs.DigitLaws.{GoodAtom, Good}
 
@@ -48,9 +51,9 @@ Kept vectors1 f = (m s : ℕ) → s < 2 ^ m → f m s < 2 ^ m
 Kept (vectors2 a) f = (m s t : ℕ) → s < 2 ^ m → t < 2 ^ m → f m s t < 2 ^ m
 Kept (order a) f = Unit {0}
 
-abbrev AllKept : List Row → Type 0
+abbrev AllKept : List (List ℕ × FunctionRow) → Type 0
 AllKept [] = Unit {0}
-AllKept (r ∷ rs) = Kept (r .signature) (r .meaning) × AllKept rs
+AllKept (r ∷ rs) = Kept (r .1 .signature) (r .1 .meaning) × AllKept rs
 
 modulo : (m n : ℕ) → n % 2 ^ m < 2 ^ m
 modulo m n = mod-lt n (pow-pos m)
@@ -115,15 +118,15 @@ all-kept = (
   ),
 )
 
-abbrev KeptIn : Option Row → Type 0
+abbrev KeptIn : Option FunctionRow → Type 0
 KeptIn none = Unit {0}
 KeptIn (some r) = Kept (r .signature) (r .meaning)
 
-row-kept : (rs : List Row) → AllKept rs → (n : List ℕ) → KeptIn (rowIn rs n)
+row-kept : (rs : List (List ℕ × FunctionRow)) → AllKept rs → (n : List ℕ) → KeptIn (entry rs n)
 row-kept [] h n = tt
-row-kept (r ∷ rs) h n = by (same (r .name) n) (row-kept rs (h .1) n)
+row-kept (r ∷ rs) h n = by (sameBytes (r .0) n) (row-kept rs (h .1) n)
   where
-    by : (q : Bool) → KeptIn (rowIn rs n) → KeptIn (elim q [ true ↦ some r | false ↦ rowIn rs n ])
+    by : (q : Bool) → KeptIn (entry rs n) → KeptIn (elim q [ true ↦ some (r .1) | false ↦ entry rs n ])
     by true k = h .0
     by false k = k
 
@@ -182,7 +185,7 @@ abbrev AllProper : List Value → Type 0
 AllProper [] = Unit {0}
 AllProper (v ∷ vs) = Proper v × AllProper vs
 
-on0-proper : (a : Value) → Proper a → (vs : List Value) → Proper (on0 a vs)
+on0-proper : (a : Value) → Proper a → (vs : List Value) → Proper (exactly0 rejected a vs)
 on0-proper a h [] = h
 on0-proper a h (v ∷ vs) = tt
 
@@ -243,7 +246,7 @@ applied-proper vectors1 f h (a ∷ vs) k = on0-proper (onBits f a) (bits-proper 
 applied-proper (vectors2 t) f h vs k = attribute-proper (onWidth (λ m x y. bits m (f m x y))) (width-proper (λ m x y. bits m (f m x y)) h) t vs k
 applied-proper (order t) f h vs k = attribute-proper (onWidth (λ m x y. truth (f m x y))) (width-proper (λ m x y. truth (f m x y)) (λ m x y i j. tt)) t vs k
 
-application-proper : (r : Option Row) → KeptIn r → (vs : List Value) → AllProper vs → Proper (application r vs)
+application-proper : (r : Option FunctionRow) → KeptIn r → (vs : List Value) → AllProper vs → Proper (application r vs)
 application-proper none h vs k = tt
 application-proper (some r) h [] k = tt
 application-proper (some r) h (v ∷ vs) k = applied-proper (r .signature) (r .meaning) h (v ∷ vs) k
@@ -267,7 +270,7 @@ number2 a n (d ∷ ds) h k =
     rw e (number2 (suc a) (n * 2 + d) ds (omega (arith, k .0)) (k .1))
 
 module _ (env : Environment) (h : (n : List ℕ) → Proper (env n)) where
-  symbol-proper : (n : List ℕ) (r : Option Row) → KeptIn r → Proper (symbolValue r (env n))
+  symbol-proper : (n : List ℕ) (r : Option FunctionRow) → KeptIn r → Proper (symbolValue r (env n))
   symbol-proper n none k = h n
   symbol-proper n (some r) k = applied-proper (r .signature) (r .meaning) k [] tt
 
@@ -284,7 +287,7 @@ module _ (env : Environment) (h : (n : List ℕ) → Proper (env n)) where
       rw e at (number2 0 0 ds (pow-pos 0) g)
   atom-proper (keyword w) g = tt
 
-  headed-kept : (o : Option (List ℕ)) → KeptIn (headed o)
+  headed-kept : (o : Option (List ℕ)) → KeptIn (andThen o function)
   headed-kept none = tt
   headed-kept (some n) = function-kept n
 
@@ -294,7 +297,7 @@ module _ (env : Environment) (h : (n : List ℕ) → Proper (env n)) where
     pub value-proper : (e : Sexp) → Good e → Proper (value env e)
     value-proper (atom a) g = atom-proper a g
     value-proper nil g = tt
-    value-proper (cons x s) g = application-proper (headed (symbolIn x)) (headed-kept (symbolIn x)) (values env s) (values-proper s (g .1))
+    value-proper (cons x s) g = application-proper (andThen (symbolIn x) function) (headed-kept (symbolIn x)) (values env s) (values-proper s (g .1))
 
     values-proper : (s : Sexp) → Good s → AllProper (values env s)
     values-proper (atom a) g = (tt, tt)
@@ -303,19 +306,19 @@ module _ (env : Environment) (h : (n : List ℕ) → Proper (env n)) where
 
 -- ---- settings
 
-at-proper : (s : Sort) (n : ℕ) → n < sizeOf s → Proper (valueAt s n)
+at-proper : (s : Sort) (n : ℕ) → n < sortSize s → Proper (valueAt s n)
 at-proper bool n h = tt
 at-proper (bitVec m) n h = h
 
-pub environment-proper : (ds : List Declaration) (s : List ℕ) → Fits ds s → (n : List ℕ) → Proper (environment ds s n)
+pub environment-proper : (ds : List Declaration) (s : List ℕ) → Assigns ds s → (n : List ℕ) → Proper (environment ds s n)
 unfolding environment
 environment-proper [] s f n = tt
 environment-proper (d ∷ ds) [] f n = tt
-environment-proper (d ∷ ds) (k ∷ s) f n = by (same (d .name) n) (environment-proper ds s (f .1) n)
+environment-proper (d ∷ ds) (k ∷ s) f n = by (sameBytes (d .name) n) (environment-proper ds s (f .1) n)
   where
     by : (q : Bool) → Proper (environment ds s n) → Proper (elim q [ true ↦ valueAt (d .sort) k | false ↦ environment ds s n ])
     by true w = at-proper (d .sort) k (f .0)
     by false w = w
 
-pub setting-proper : (ds : List Declaration) (s : List ℕ) → Fits ds s → (e : Sexp) → Good e → Proper (value (environment ds s) e)
+pub setting-proper : (ds : List Declaration) (s : List ℕ) → Assigns ds s → (e : Sexp) → Good e → Proper (value (environment ds s) e)
 setting-proper ds s f e g = value-proper (environment ds s) (environment-proper ds s f) e g

@@ -1,13 +1,14 @@
 -- What is read has digits of the right base. Assumes nothing.
 use mathlib.Core.Path.{_≡_, refl, subst}
-use mathlib.Core.Bool.{Bool, true, false}
+use mathlib.Core.Bool.{Bool, true, false, cond}
 use mathlib.Core.List.{List, [], _∷_, _++_}
 use mathlib.Core.Option.{Option, none, some}
 use Prim.Native.Nat.{ℕ}
 use lib.Dec.{eqb, ltb}
 use borrow.Author.Tests.{ltb-true}
+use Rattle.lists.specs.Names.{listed}
 use Rattle.smtlib.specs.Characters.{digitChar, lineBreak, character, quotable, Class, inWord, blank, leftParen, rightParen, semicolon, bar, noToken, classOf}
-use Rattle.smtlib.specs.Tokens.{Atom, symbol, reserved, numeral, hexadecimal, binary, keyword, Token, opening, closing, single, wrong, listed, reservedWords, digitValue, digits, simple, number, leadingZero, hashed, tokenOf, Mode, outside, inQuotes, inComment, ended, outsideAt, step, last, tokens}
+use Rattle.smtlib.specs.Tokens.{Atom, symbol, reserved, numeral, hexadecimal, binary, keyword, Token, opening, closing, single, wrong, reservedWords, digitValue, digits, simple, number, leadingZero, hashed, tokenOf, Mode, outside, inQuotes, inComment, ended, outsideAt, step, last, tokens}
 use Rattle.smtlib.specs.Sexps.{Sexp, atom, nil, cons, snoc, parse, sexpsOf}
 use Rattle.smtlib.proofs.Spelling.{Digits}
 
@@ -39,7 +40,7 @@ record GoodToken (t : Token) : Type 0 where
 good : (t : Token) → InToken t → GoodToken t
 good t h = record { inside = h }
 
-by-test : (q : Bool) {a b : Token} → GoodToken a → GoodToken b → GoodToken (elim q [ true ↦ a | false ↦ b ])
+by-test : (q : Bool) {a b : Token} → GoodToken a → GoodToken b → GoodToken (cond q a b)
 by-test true h k = h
 by-test false h k = k
 
@@ -71,6 +72,10 @@ hashed-good (c ∷ s) =
     by-test (eqb c 120) (number-good 16 hexadecimal (λ ds h. h) (digits 16 s) (digits-good 16 s))
     (by-test (eqb c 98) (number-good 2 binary (λ ds h. h) (digits 2 s) (digits-good 2 s)) (good wrong tt))
 
+word-good : (q : Bool) (w : List ℕ) → GoodToken (single (cond q (reserved w) (symbol w)))
+word-good true w = good (single (reserved w)) tt
+word-good false w = good (single (symbol w)) tt
+
 token-good : (w : List ℕ) → GoodToken (tokenOf w)
 unfolding tokenOf
 token-good [] = good wrong tt
@@ -78,7 +83,7 @@ token-good (c ∷ s) =
     by-test (digitChar c) (by-test (leadingZero (c ∷ s)) (good wrong tt) (number-good 10 numeral (λ ds h. tt) (digits 10 (c ∷ s)) (digits-good 10 (c ∷ s))))
     (by-test (eqb c 35) (hashed-good s)
     (by-test (eqb c 58) (by-test (simple s) (good (single (keyword s)) tt) (good wrong tt))
-    (by-test (simple (c ∷ s)) (by-test (listed reservedWords (c ∷ s)) (good (single (reserved (c ∷ s))) tt) (good (single (symbol (c ∷ s))) tt)) (good wrong tt))))
+    (by-test (simple (c ∷ s)) (word-good (listed reservedWords (c ∷ s)) (c ∷ s)) (good wrong tt))))
 
 -- ---- texts
 
@@ -106,7 +111,7 @@ outside-good w c noToken = (tt, tt)
 record GoodMove (a : List Token × Mode) : Type 0 where
   told : GoodTokens (a .0)
 
-by-move : (q : Bool) {a b : List Token × Mode} → GoodMove a → GoodMove b → GoodMove (elim q [ true ↦ a | false ↦ b ])
+by-move : (q : Bool) {a b : List Token × Mode} → GoodMove a → GoodMove b → GoodMove (cond q a b)
 by-move true h k = h
 by-move false h k = k
 

@@ -8,10 +8,12 @@ pub mod CommandLaws
 pub mod Acceptance
 pub mod DigitLaws
 pub mod Bounds
+pub mod Tests
 pub mod SatisfactionLaws
 pub mod OrderLaws
 pub mod TermData
 pub mod ScriptData
+pub mod DecisionData
 pub mod Running
 pub mod Vectors
 pub mod Decisions

@@ -1,30 +1,18 @@
 -- S-expressions printed with single spaces are read back as they were, and so are lists of them with a line feed behind each. Assumes nothing.
 use mathlib.Core.Path.{_≡_, refl, sym, ap, _∙_}
-use mathlib.Core.Bool.{true, cond}
+use mathlib.Core.Bool.{true}
 use mathlib.Core.List.{List, [], _∷_, _++_, map, append-assoc, append-nil}
 use mathlib.Core.Option.{some}
-use Prim.Native.Nat.{ℕ, _+_}
+use Prim.Native.Nat.{ℕ}
 use native.Mathlib.Omega.{arith}
-use lib.Dec.{ltb}
 use Rattle.lists.specs.Ascii.{ascii}
 use Rattle.smtlib.specs.Characters.{every, symbolChar, wordChar, letterChar, digitChar, whiteSpace, classOf}
 use Rattle.smtlib.specs.Tokens.{Atom, symbol, reserved, numeral, hexadecimal, binary, keyword, Token, opening, closing, single, outside, tokenOf, step, tokens}
 use Rattle.smtlib.specs.Sexps.{Sexp, atom, nil, cons, snoc, parse, sexpsOf}
+use Rattle.smtlib.specs.Spelling.{spelling, Spelled}
 use Rattle.smtlib.proofs.Reading.{Ends, word-read}
 
 -- ---- printing
-
--- a digit's byte, in lower case
-unfoldable pub digitByte : ℕ → ℕ
-digitByte d = cond (ltb d 10) (48 + d) (87 + d)
-
-abbrev pub spelling : Atom → List ℕ
-spelling (symbol n) = n
-spelling (reserved w) = w
-spelling (numeral ds) = map digitByte ds
-spelling (hexadecimal ds) = 35 ∷ 120 ∷ map digitByte ds
-spelling (binary ds) = 35 ∷ 98 ∷ map digitByte ds
-spelling (keyword w) = 58 ∷ w
 
 abbrev mutual
   pub print : Sexp → List ℕ
@@ -45,11 +33,6 @@ lines nil = []
 lines (cons x s) = print x ++ 10 ∷ lines s
 
 -- ---- what can be printed
-
--- the atom's spelling is one word, which is read as that atom
-pub record Spelled (a : Atom) : Type 0 where
-  pub word : every wordChar (spelling a) ≡ true
-  pub reads : tokenOf (spelling a) ≡ single a
 
 -- every atom is so spelled, and every list ends in nil
 abbrev mutual
@@ -117,20 +100,20 @@ lines-read (cons x s) h = print-read x (h .0) (10 ∷ lines s) tt ∙ ap (told x
 -- ---- its parsing
 
 -- a list behind another
-abbrev joined : Sexp → Sexp → Sexp
-joined (atom a) s = s
-joined nil s = s
-joined (cons x r) s = cons x (joined r s)
+abbrev linked : Sexp → Sexp → Sexp
+linked (atom a) s = s
+linked nil s = s
+linked (cons x r) s = cons x (linked r s)
 
-joined-snoc : (r x s : Sexp) → joined (snoc r x) s ≡ joined r (cons x s)
-joined-snoc (atom a) x s = refl
-joined-snoc nil x s = refl
-joined-snoc (cons y r) x s = ap (cons y) (joined-snoc r x s)
+linked-snoc : (r x s : Sexp) → linked (snoc r x) s ≡ linked r (cons x s)
+linked-snoc (atom a) x s = refl
+linked-snoc nil x s = refl
+linked-snoc (cons y r) x s = ap (cons y) (linked-snoc r x s)
 
-snoc-joined : (r x : Sexp) → snoc r x ≡ joined r (cons x nil)
-snoc-joined (atom a) x = refl
-snoc-joined nil x = refl
-snoc-joined (cons y r) x = ap (cons y) (snoc-joined r x)
+snoc-linked : (r x : Sexp) → snoc r x ≡ linked r (cons x nil)
+snoc-linked (atom a) x = refl
+snoc-linked nil x = refl
+snoc-linked (cons y r) x = ap (cons y) (snoc-linked r x)
 
 mutual
   unfolding parse
@@ -141,21 +124,21 @@ mutual
   parse-told (cons x s) h around r ts = parse-told x (h .0) (r ∷ around) nil (told-rest s ts) ∙ parse-rest s (h .1) r around nil x ts
 
   parse-rest : (s : Sexp) → Listing s → (up : Sexp) (around : List Sexp) (r x : Sexp) (ts : List Token)
-      → parse (up ∷ around) (snoc r x) (told-rest s ts) ≡ parse around (snoc up (joined r (cons x s))) ts
+      → parse (up ∷ around) (snoc r x) (told-rest s ts) ≡ parse around (snoc up (linked r (cons x s))) ts
   parse-rest (atom a) h up around r x ts = absurd h
-  parse-rest nil h up around r x ts = ap (λ (y : Sexp). parse around (snoc up y) ts) (snoc-joined r x)
+  parse-rest nil h up around r x ts = ap (λ (y : Sexp). parse around (snoc up y) ts) (snoc-linked r x)
   parse-rest (cons y s) h up around r x ts =
       parse-told y (h .0) (up ∷ around) (snoc r x) (told-rest s ts) ∙ parse-rest s (h .1) up around (snoc r x) y ts
-      ∙ ap (λ (z : Sexp). parse around (snoc up z) ts) (joined-snoc r x (cons y s))
+      ∙ ap (λ (z : Sexp). parse around (snoc up z) ts) (linked-snoc r x (cons y s))
 
-parse-lines : (s : Sexp) → Listing s → (r : Sexp) → joined r nil ≡ r → parse [] r (told-lines s) ≡ some (joined r s)
+parse-lines : (s : Sexp) → Listing s → (r : Sexp) → linked r nil ≡ r → parse [] r (told-lines s) ≡ some (linked r s)
 unfolding parse
 parse-lines (atom a) h r e = absurd h
 parse-lines nil h r e = ap some (sym e)
 parse-lines (cons x s) h r e =
     parse-told x (h .0) [] r (told-lines s)
-    ∙ parse-lines s (h .1) (snoc r x) (joined-snoc r x nil ∙ sym (snoc-joined r x))
-    ∙ ap some (joined-snoc r x s)
+    ∙ parse-lines s (h .1) (snoc r x) (linked-snoc r x nil ∙ sym (snoc-linked r x))
+    ∙ ap some (linked-snoc r x s)
 
 -- ---- the round trip
 

@@ -6,29 +6,32 @@ use mathlib.Core.List.{List, [], _∷_, _++_, map}
 use mathlib.Core.Option.{Option, none, some}
 use Rattle.lists.specs.Places.{from}
 use Rattle.lists.specs.Ascii.{ascii}
+use Rattle.lists.specs.Names.{sameBytes}
+use Rattle.lists.specs.Few.{exactly1}
 use Rattle.smtlib.specs.Characters.{every, digitChar, letterChar, symbolChar, wordChar, lineBreak, whiteSpace, character, quotable, classOf}
 use Rattle.smtlib.specs.Tokens.{reservedWords, digitValue, digits, tokenOf, step, tokens}
-use Rattle.smtlib.specs.Sexps.{Sexp, parse, sexpsOf}
+use Rattle.smtlib.specs.Sexps.{Sexp, items, parse, sexpsOf}
 use Rattle.smtlib.specs.BitVectors.{bit, fromBits, bvnot, bvand, bvor, bvneg, bvadd, bvmul, bvsub, bvult, bvule, bvugt, bvuge, negative, bvslt, bvsle, bvsgt, bvsge}
 use Rattle.smtlib.specs.Values.{Value, rejected}
 use Rattle.smtlib.specs.Theory.{functions, otherNames, function, theoryName}
 use Rattle.smtlib.specs.Terms.{atomValue, value, values}
-use Rattle.smtlib.specs.Commands.{Declaration, exactly1, sortIn, logics, commands, commandOf}
-use Rattle.smtlib.specs.Settings.{sizeOf, environment}
-use Rattle.smtlib.specs.Scripts.{Script, fresh, formula, gather, scriptIn}
-use Rattle.smtlib.specs.Satisfaction.{scriptOf, allTrue, meeting}
+use Rattle.smtlib.specs.Commands.{Declaration, sortIn, commands, commandOf}
+use Rattle.smtlib.specs.Settings.{sortSize, environment}
+use Rattle.smtlib.specs.Scripts.{Script, declarable, formula, gather, setsLogic, scriptIn}
+use Rattle.smtlib.specs.Satisfaction.{scriptOf, allTrue}
+use Rattle.smtlib.proofs.Tests.{meeting}
 
 -- a list of one term, which has no symbol
 abbrev pub closedTerm : Option Sexp → Value
 closedTerm none = rejected
-closedTerm (some s) = exactly1 rejected (value (λ n. rejected)) s
+closedTerm (some s) = exactly1 rejected (value (λ n. rejected)) (items s)
 
 unfoldable pub termValue : String → Value
-unfolding every digitChar letterChar symbolChar wordChar lineBreak whiteSpace character quotable classOf reservedWords digitValue digits tokenOf step tokens parse sexpsOf bit fromBits bvnot bvand bvor bvneg bvadd bvmul bvsub bvult bvule bvugt bvuge negative bvslt bvsle bvsgt bvsge functions function atomValue value values
+unfolding sameBytes every digitChar letterChar symbolChar wordChar lineBreak whiteSpace character quotable classOf reservedWords digitValue digits tokenOf step tokens parse sexpsOf bit fromBits bvnot bvand bvor bvneg bvadd bvmul bvsub bvult bvule bvugt bvuge negative bvslt bvsle bvsgt bvsge functions function atomValue value values
 termValue text = closedTerm (sexpsOf (ascii text))
 
 unfoldable pub scriptRead : String → Option Script
-unfolding termValue otherNames theoryName sortIn logics commands commandOf environment fresh formula gather scriptIn scriptOf allTrue
+unfolding termValue otherNames theoryName sortIn commands commandOf environment declarable formula gather setsLogic scriptIn scriptOf allTrue
 scriptRead text = scriptOf (ascii text)
 
 -- every setting, the first symbol's number slowest
@@ -38,7 +41,7 @@ eachFirst rest (n ∷ ns) = map (λ s. n ∷ s) rest ++ eachFirst rest ns
 
 abbrev pub settings : List Declaration → List (List ℕ)
 settings [] = [] ∷ []
-settings (d ∷ ds) = eachFirst (settings ds) (from (λ n. n) 0 (sizeOf (d .sort)))
+settings (d ∷ ds) = eachFirst (settings ds) (from (λ n. n) 0 (sortSize (d .sort)))
 
 abbrev pub those : (List ℕ → Bool) → List (List ℕ) → List (List ℕ)
 those p [] = []

@@ -8,39 +8,41 @@ use Prim.Native.Nat.{ℕ}
 use lib.Dec.{ltb}
 use borrow.Author.Tests.{ltb-true, lt-ltb}
 use Rattle.lists.proofs.TestLaws.{both, and}
+use Rattle.lists.specs.First.{andThen}
 use Rattle.smtlib.specs.Commands.{Declaration}
-use Rattle.smtlib.specs.Settings.{sizeOf, Fits, fitting, environment}
+use Rattle.smtlib.specs.Settings.{sortSize, Assigns, environment}
 use Rattle.smtlib.specs.Scripts.{Script}
-use Rattle.smtlib.specs.Satisfaction.{scriptOf, accepted, wellFormed, declaredBy, declared, allTrue, Meets, Satisfies, meeting, metBy, satisfiedBy}
+use Rattle.smtlib.specs.Satisfaction.{scriptOf, declared, allTrue, Meets, Satisfies}
+use Rattle.smtlib.proofs.Tests.{accepted, wellFormed, assigning, meeting, metBy, satisfiedBy}
 
 -- ---- the tests
-fits-tested : (ds : List Declaration) (s : List ℕ) → Fits ds s → fitting ds s ≡ true
-fits-tested [] [] f = refl
-fits-tested [] (n ∷ s) f = absurd f
-fits-tested (d ∷ ds) [] f = absurd f
-fits-tested (d ∷ ds) (n ∷ s) f = and (lt-ltb n (sizeOf (d .sort)) (f .0)) (fits-tested ds s (f .1))
+assigns-tested : (ds : List Declaration) (s : List ℕ) → Assigns ds s → assigning ds s ≡ true
+assigns-tested [] [] f = refl
+assigns-tested [] (n ∷ s) f = absurd f
+assigns-tested (d ∷ ds) [] f = absurd f
+assigns-tested (d ∷ ds) (n ∷ s) f = and (lt-ltb n (sortSize (d .sort)) (f .0)) (assigns-tested ds s (f .1))
 
-tested-fits : (ds : List Declaration) (s : List ℕ) → fitting ds s ≡ true → Fits ds s
-tested-fits [] [] h = tt
-tested-fits [] (n ∷ s) h = absurd (false≢true h)
-tested-fits (d ∷ ds) [] h = absurd (false≢true h)
-tested-fits (d ∷ ds) (n ∷ s) h =
-    let w = both (ltb n (sizeOf (d .sort))) (fitting ds s) h in
-    (ltb-true n (sizeOf (d .sort)) (w .0), tested-fits ds s (w .1))
+tested-assigns : (ds : List Declaration) (s : List ℕ) → assigning ds s ≡ true → Assigns ds s
+tested-assigns [] [] h = tt
+tested-assigns [] (n ∷ s) h = absurd (false≢true h)
+tested-assigns (d ∷ ds) [] h = absurd (false≢true h)
+tested-assigns (d ∷ ds) (n ∷ s) h =
+    let w = both (ltb n (sortSize (d .sort))) (assigning ds s) h in
+    (ltb-true n (sortSize (d .sort)) (w .0), tested-assigns ds s (w .1))
 
-pub fits-test : (ds : List Declaration) (s : List ℕ) → Fits ds s ↔ (fitting ds s ≡ true)
-fits-test ds s = (fits-tested ds s, tested-fits ds s)
+pub assigns-test : (ds : List Declaration) (s : List ℕ) → Assigns ds s ↔ (assigning ds s ≡ true)
+assigns-test ds s = (assigns-tested ds s, tested-assigns ds s)
 
 pub meets-test : (p : Script) (s : List ℕ) → Meets p s ↔ (meeting p s ≡ true)
 meets-test p s = (to, from)
   where
     to : Meets p s → meeting p s ≡ true
-    to m = and (fits-tested (p .declares) s (m .fits)) (m .holds)
+    to m = and (assigns-tested (p .declares) s (m .assigns)) (m .holds)
 
     from : meeting p s ≡ true → Meets p s
     from h =
-        let w = both (fitting (p .declares) s) (allTrue (environment (p .declares) s) (p .asserts)) h in
-        record { fits = tested-fits (p .declares) s (w .0); holds = w .1 }
+        let w = both (assigning (p .declares) s) (allTrue (environment (p .declares) s) (p .asserts)) h in
+        record { assigns = tested-assigns (p .declares) s (w .0); holds = w .1 }
 
 -- ---- the script that the bytes are, if its reading is known
 pub satisfies-read : (bytes s : List ℕ) {p : Script} → scriptOf bytes ≡ some p → Satisfies bytes s ↔ Meets p s
@@ -70,9 +72,9 @@ satisfied-accepted bytes s k = ap accepted (k .is-read)
 pub rejected-never : (bytes s : List ℕ) → wellFormed bytes ≡ false → Satisfies bytes s → ⊥
 rejected-never bytes s e k = false≢true (sym e ∙ satisfied-accepted bytes s k)
 
--- a setting that satisfies the bytes fits what they declare
-pub satisfied-fits : (bytes s : List ℕ) {ds : List Declaration} → declared bytes ≡ some ds → Satisfies bytes s → Fits ds s
+-- a setting that satisfies the bytes assigns a value to each symbol that they declare
+pub satisfied-assigns : (bytes s : List ℕ) {ds : List Declaration} → declared bytes ≡ some ds → Satisfies bytes s → Assigns ds s
 unfolding declared
-satisfied-fits bytes s {ds} e k =
-    let q : k .script .declares ≡ ds = cc (ap declaredBy (k .is-read), e) in
-    subst (λ (x : List Declaration). Fits x s) q (k .meets .fits)
+satisfied-assigns bytes s {ds} e k =
+    let q : k .script .declares ≡ ds = cc (ap (λ (o : Option Script). andThen o (λ p. some (p .declares))) (k .is-read), e) in
+    subst (λ (x : List Declaration). Assigns x s) q (k .meets .assigns)

@@ -1,4 +1,4 @@
--- Scripts with the verdicts of z3 and cvc5. Written by tests/smtlib/vectors.rs from tests/smtlib/scripts.txt.
+-- Scripts of which z3 and cvc5 say the same (z3 -in; cvc5 --incremental --lang smt2 --strict-parsing). Written by tests/smtlib/vectors.rs from tests/smtlib/scripts.txt.
 use Prim.Native.Nat.{ℕ}
 use Prim.Native.String.{String}
 use mathlib.Core.Bool.{Bool, true, false}
@@ -45,6 +45,10 @@ satisfied =
     ∷ ("(set-logic QF_BV)(declare-fun x () (_ BitVec 2))(declare-fun y () (_ BitVec 2))(assert (=> (bvslt x y) (bvult y x) (= (bvor x y) #b11)))(check-sat)(exit)", (0 ∷ 0 ∷ []) ∷ (0 ∷ 1 ∷ []) ∷ (0 ∷ 2 ∷ []) ∷ (0 ∷ 3 ∷ []) ∷ (1 ∷ 0 ∷ []) ∷ (1 ∷ 1 ∷ []) ∷ (1 ∷ 2 ∷ []) ∷ (1 ∷ 3 ∷ []) ∷ (2 ∷ 1 ∷ []) ∷ (2 ∷ 2 ∷ []) ∷ (2 ∷ 3 ∷ []) ∷ (3 ∷ 0 ∷ []) ∷ (3 ∷ 1 ∷ []) ∷ (3 ∷ 2 ∷ []) ∷ (3 ∷ 3 ∷ []) ∷ [])
     ∷ ("(set-logic QF_BV)(declare-fun p () Bool)(declare-fun w () (_ BitVec 5))(assert (= p (bvsge w #b10001)))(assert (xor p (bvuge w #b00011)))(check-sat)(exit)", (0 ∷ 16 ∷ []) ∷ (1 ∷ 0 ∷ []) ∷ (1 ∷ 1 ∷ []) ∷ (1 ∷ 2 ∷ []) ∷ [])
     ∷ ("(set-logic QF_BV)(declare-fun x () (_ BitVec 6))(assert (= (bvsub x #b000010) (bvneg x)))(check-sat)(exit)", (1 ∷ []) ∷ (33 ∷ []) ∷ [])
+    ∷ ("(set-logic QF_BV)(assert (= #b01 (bvadd #b01 #b01 #b11)))(check-sat)(exit)", ([]) ∷ [])
+    ∷ ("(set-logic QF_BV)(assert (= #b01 (bvand #b01 #b01 #b11)))(check-sat)(exit)", ([]) ∷ [])
+    ∷ ("(set-logic QF_BV)(declare-fun x () (_ BitVec 2))(declare-fun y () (_ BitVec 2))(assert (= (bvadd x y x #b01) (bvmul x y #b11)))(check-sat)(exit)", (0 ∷ 3 ∷ []) ∷ (2 ∷ 1 ∷ []) ∷ [])
+    ∷ ("(set-logic QF_BV)(declare-fun x () (_ BitVec 2))(declare-fun y () (_ BitVec 2))(assert (= (bvor x y #b01) (bvand #b11 x y #b01)))(check-sat)(exit)", (1 ∷ 1 ∷ []) ∷ [])
     ∷ ("(set-logic QF_BV)(declare-fun p () Bool)(declare-fun q () Bool)(declare-fun r () (_ BitVec 2))(assert (= (ite p (ite q #b00 #b01) (ite q #b10 #b11)) (bvadd r r)))(check-sat)(exit)", (0 ∷ 1 ∷ 1 ∷ []) ∷ (0 ∷ 1 ∷ 3 ∷ []) ∷ (1 ∷ 1 ∷ 0 ∷ []) ∷ (1 ∷ 1 ∷ 2 ∷ []) ∷ [])
     ∷ ("(set-logic QF_BV)(declare-fun p () Bool)(declare-fun x () (_ BitVec 1))(declare-fun y () (_ BitVec 1))(assert (= (ite p (bvslt x y) (bvult x y)) (= x #b1)))(check-sat)(exit)", (0 ∷ 0 ∷ 0 ∷ []) ∷ (1 ∷ 0 ∷ 0 ∷ []) ∷ (1 ∷ 0 ∷ 1 ∷ []) ∷ (1 ∷ 1 ∷ 0 ∷ []) ∷ [])
     ∷ []
@@ -99,6 +103,10 @@ refused =
     ∷ "(set-logic QF_BV)(assert (bvsle #b1 #b1 #b1))(check-sat)(exit)"
     ∷ "(set-logic QF_BV)(assert (= #b1 (bvsub #b1)))(check-sat)(exit)"
     ∷ "(set-logic QF_BV)(assert (= #b1 (bvsub #b1 #b1 #b1)))(check-sat)(exit)"
+    ∷ "(set-logic QF_BV)(assert (= #b1 (bvadd #b1 #b1 #b01)))(check-sat)(exit)"
+    ∷ "(set-logic QF_BV)(assert (= #b1 (bvmul #b1 #b1 true)))(check-sat)(exit)"
+    ∷ "(set-logic QF_BV)(assert (= #b1 (bvand)))(check-sat)(exit)"
+    ∷ "(set-logic QF_BV)(assert (= #b1 bvor))(check-sat)(exit)"
     ∷ "(set-logic QF_BV)(assert (= #b1))(check-sat)(exit)"
     ∷ "(set-logic QF_BV)(assert (=> true))(check-sat)(exit)"
     ∷ "(set-logic QF_BV)(assert (true))(check-sat)(exit)"
@@ -157,6 +165,7 @@ refused =
     ∷ "(set-logic QF_BV QF_UFBV)(assert true)(check-sat)(exit)"
     ∷ "(set-logic QF_BV)(set-logic QF_BV)(assert true)(check-sat)(exit)"
     ∷ "(assert true)(set-logic QF_BV)(check-sat)(exit)"
+    ∷ "(declare-fun x () Bool)(set-logic QF_BV)(assert x)(check-sat)(exit)"
     ∷ "(set-logic QF_BV)(assert)(check-sat)(exit)"
     ∷ "(set-logic QF_BV)(assert true true)(check-sat)(exit)"
     ∷ "(set-logic QF_BV)(assert true)(check-sat)(exit 0)"

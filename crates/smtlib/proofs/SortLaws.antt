@@ -6,13 +6,16 @@ use mathlib.Core.Option.{Option, none, some}
 use Prim.Native.Nat.{ℕ, _<_}
 use lib.Dec.{eqb, lit<}
 use lib.Pow.{pow-pos}
-use Rattle.smtlib.specs.Tokens.{Atom, symbol, reserved, numeral, hexadecimal, binary, keyword, same}
+use Rattle.lists.specs.Names.{sameBytes}
+use Rattle.lists.specs.Few.{exactly0, exactly1, exactly2, exactly3}
+use Rattle.lists.specs.First.{andThen}
+use Rattle.smtlib.specs.Tokens.{Atom, symbol, reserved, numeral, hexadecimal, binary, keyword}
 use Rattle.smtlib.specs.Sexps.{Sexp, atom, nil, cons, symbolIn}
-use Rattle.smtlib.specs.Values.{Sort, bool, bitVec, Val, Value, truth, bits, rejected, sortOf, sorted, onTruth, onTruths, onBits, onWidth, onSort, onChoice, on0, on1, on2, on3, fromLeft, fromRight, both, inChain, withEach, inPairs}
-use Rattle.smtlib.specs.Theory.{Attribute, two, left-assoc, right-assoc, chained, pairs, Signature, constant, truths1, truths2, relation, choice, vectors1, vectors2, order, Meaning, byAttribute, applied, Row, function}
-use Rattle.smtlib.specs.Terms.{Environment, symbolValue, atomValue, application, headed, value, values}
+use Rattle.smtlib.specs.Values.{Sort, bool, bitVec, Val, Value, truth, bits, rejected, sortOf, sorted, onTruth, onTruths, onBits, onWidth, onSort, onChoice, fromLeft, fromRight, both, inChain, withEach, inPairs}
+use Rattle.smtlib.specs.Theory.{Attribute, two, left-assoc, right-assoc, chained, pairs, Signature, constant, truths1, truths2, relation, choice, vectors1, vectors2, order, Meaning, byAttribute, applied, FunctionRow, function}
+use Rattle.smtlib.specs.Terms.{Environment, symbolValue, atomValue, application, value, values}
 use Rattle.smtlib.specs.Commands.{Declaration}
-use Rattle.smtlib.specs.Settings.{sizeOf, valueAt, Fits, environment, zeros}
+use Rattle.smtlib.specs.Settings.{sortSize, valueAt, Assigns, environment, zeros}
 use Rattle.smtlib.specs.Scripts.{isBool, formula}
 
 -- one value of each sort
@@ -92,15 +95,15 @@ choice-sorted f rejected a b = record { sort = refl }
 abbrev plains : List Value → List Value
 plains vs = map plain vs
 
-on0-sorted : {a b : Value} → Alike a b → (vs : List Value) → Alike (on0 a vs) (on0 b (plains vs))
+on0-sorted : {a b : Value} → Alike a b → (vs : List Value) → Alike (exactly0 rejected a vs) (exactly0 rejected b (plains vs))
 on0-sorted h [] = h
 on0-sorted h (v ∷ vs) = record { sort = refl }
 
-on1-sorted : (f : Value → Value) → Sorted1 f → (vs : List Value) → Alike (on1 f vs) (on1 f (plains vs))
+on1-sorted : (f : Value → Value) → Sorted1 f → (vs : List Value) → Alike (exactly1 rejected f vs) (exactly1 rejected f (plains vs))
 on1-sorted f h [] = record { sort = refl }
 on1-sorted f h (a ∷ vs) = on0-sorted (h a) vs
 
-on3-sorted : (f : Value → Value → Value → Value) → ((a b c : Value) → Alike (f a b c) (f (plain a) (plain b) (plain c))) → (vs : List Value) → Alike (on3 f vs) (on3 f (plains vs))
+on3-sorted : (f : Value → Value → Value → Value) → ((a b c : Value) → Alike (f a b c) (f (plain a) (plain b) (plain c))) → (vs : List Value) → Alike (exactly3 rejected f vs) (exactly3 rejected f (plains vs))
 on3-sorted f h [] = record { sort = refl }
 on3-sorted f h (a ∷ []) = record { sort = refl }
 on3-sorted f h (a ∷ b ∷ []) = record { sort = refl }
@@ -115,7 +118,7 @@ both-like : {a a′ b b′ : Value} → Alike a a′ → Alike b b′ → Alike 
 both-like d e = at-like (onTruths _&&_) (truths-sorted _&&_) d e
 
 module _ (f : Value → Value → Value) (h : Sorted2 f) where
-  on2-sorted : (vs : List Value) → Alike (on2 f vs) (on2 f (plains vs))
+  on2-sorted : (vs : List Value) → Alike (exactly2 rejected f vs) (exactly2 rejected f (plains vs))
   on2-sorted [] = record { sort = refl }
   on2-sorted (a ∷ []) = record { sort = refl }
   on2-sorted (a ∷ b ∷ vs) = on0-sorted (h a b) vs
@@ -170,14 +173,14 @@ applied-sorted (vectors2 t) f vs =
 applied-sorted (order t) f vs =
     attribute-sorted (onWidth (λ m x y. truth (f m x y))) (width-sorted (λ m x y. truth (f m x y)) (λ m x y. truth (f m x y)) (λ m x y. record { sort = refl })) t vs
 
-application-sorted : (r : Option Row) (vs : List Value) → Alike (application r vs) (application r (plains vs))
+application-sorted : (r : Option FunctionRow) (vs : List Value) → Alike (application r vs) (application r (plains vs))
 application-sorted none vs = record { sort = refl }
 application-sorted (some r) [] = record { sort = refl }
 application-sorted (some r) (v ∷ vs) = applied-sorted (r .signature) (r .meaning) (v ∷ vs)
 
 -- ---- terms, in two environments of the same sorts
 module _ (env env′ : Environment) (h : (n : List ℕ) → sortOf (env n) ≡ sortOf (env′ n)) where
-  symbol-sorted : (n : List ℕ) (r : Option Row) → sortOf (symbolValue r (env n)) ≡ sortOf (symbolValue r (env′ n))
+  symbol-sorted : (n : List ℕ) (r : Option FunctionRow) → sortOf (symbolValue r (env n)) ≡ sortOf (symbolValue r (env′ n))
   symbol-sorted n none = h n
   symbol-sorted n (some r) = refl
 
@@ -197,7 +200,7 @@ module _ (env env′ : Environment) (h : (n : List ℕ) → sortOf (env n) ≡ s
     same-sort (atom a) = atom-sorted a
     same-sort nil = refl
     same-sort (cons x s) =
-        let r = headed (symbolIn x) in
+        let r = andThen (symbolIn x) function in
         application-sorted r (values env s) .sort ∙ ap (λ (vs : List Value). sortOf (application r vs)) (same-sorts s) ∙ sym (application-sorted r (values env′ s) .sort)
 
     same-sorts : (s : Sexp) → plains (values env s) ≡ plains (values env′ s)
@@ -210,12 +213,12 @@ value-sorted : (s : Sort) (k j : ℕ) → sortOf (valueAt s k) ≡ sortOf (value
 value-sorted bool k j = refl
 value-sorted (bitVec m) k j = refl
 
-symbols-sorted : (ds : List Declaration) (s t : List ℕ) → Fits ds s → Fits ds t → (n : List ℕ) → sortOf (environment ds s n) ≡ sortOf (environment ds t n)
+symbols-sorted : (ds : List Declaration) (s t : List ℕ) → Assigns ds s → Assigns ds t → (n : List ℕ) → sortOf (environment ds s n) ≡ sortOf (environment ds t n)
 unfolding environment
 symbols-sorted [] s t f g n = refl
 symbols-sorted (d ∷ ds) [] t f g n = absurd f
 symbols-sorted (d ∷ ds) (k ∷ s) [] f g n = absurd g
-symbols-sorted (d ∷ ds) (k ∷ s) (j ∷ t) f g n = by (same (d .name) n) (symbols-sorted ds s t (f .1) (g .1) n)
+symbols-sorted (d ∷ ds) (k ∷ s) (j ∷ t) f g n = by (sameBytes (d .name) n) (symbols-sorted ds s t (f .1) (g .1) n)
   where
     by : (q : Bool) → sortOf (environment ds s n) ≡ sortOf (environment ds t n)
         → sortOf (elim q [ true ↦ valueAt (d .sort) k | false ↦ environment ds s n ]) ≡ sortOf (elim q [ true ↦ valueAt (d .sort) j | false ↦ environment ds t n ])
@@ -223,14 +226,14 @@ symbols-sorted (d ∷ ds) (k ∷ s) (j ∷ t) f g n = by (same (d .name) n) (sym
     by false e = e
 
 -- a term's sort is the same in every setting
-pub setting-sort : (ds : List Declaration) (s t : List ℕ) → Fits ds s → Fits ds t → (e : Sexp) → sortOf (value (environment ds s) e) ≡ sortOf (value (environment ds t) e)
+pub setting-sort : (ds : List Declaration) (s t : List ℕ) → Assigns ds s → Assigns ds t → (e : Sexp) → sortOf (value (environment ds s) e) ≡ sortOf (value (environment ds t) e)
 setting-sort ds s t f g e = same-sort (environment ds s) (environment ds t) (symbols-sorted ds s t f g) e
 
-value-0 : (s : Sort) → 0 < sizeOf s
+value-0 : (s : Sort) → 0 < sortSize s
 value-0 bool = lit< tt
 value-0 (bitVec m) = pow-pos m
 
-pub zeros-fit : (ds : List Declaration) → Fits ds (zeros ds)
+pub zeros-fit : (ds : List Declaration) → Assigns ds (zeros ds)
 zeros-fit [] = tt
 zeros-fit (d ∷ ds) = (value-0 (d .sort), zeros-fit ds)
 
@@ -240,11 +243,11 @@ is-bool (some bool) h = refl
 is-bool (some (bitVec m)) h = absurd (false≢true h)
 
 -- what is a formula has sort Bool in every setting
-pub formula-sort : (ds : List Declaration) (e : Sexp) → formula ds e ≡ true → (s : List ℕ) → Fits ds s → sortOf (value (environment ds s) e) ≡ some bool
+pub formula-sort : (ds : List Declaration) (e : Sexp) → formula ds e ≡ true → (s : List ℕ) → Assigns ds s → sortOf (value (environment ds s) e) ≡ some bool
 unfolding formula
 formula-sort ds e h s f = setting-sort ds s (zeros ds) f (zeros-fit ds) e ∙ is-bool (sortOf (value (environment ds (zeros ds)) e)) h
 
 -- and the other way round
-pub sort-formula : (ds : List Declaration) (e : Sexp) (s : List ℕ) → Fits ds s → sortOf (value (environment ds s) e) ≡ some bool → formula ds e ≡ true
+pub sort-formula : (ds : List Declaration) (e : Sexp) (s : List ℕ) → Assigns ds s → sortOf (value (environment ds s) e) ≡ some bool → formula ds e ≡ true
 unfolding formula
 sort-formula ds e s f h = ap isBool (setting-sort ds (zeros ds) s (zeros-fit ds) f e ∙ h)

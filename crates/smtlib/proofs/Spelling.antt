@@ -10,9 +10,10 @@ use lib.Dec.{eqb, lit≤}
 use borrow.Author.Tests.{eqb-true, ne-eqb, lt-ltb, not-true}
 use Rattle.lists.specs.Places.{allBelow}
 use Rattle.lists.proofs.TestLaws.{both, and, all-true}
+use Rattle.lists.specs.Names.{listed}
 use Rattle.smtlib.specs.Characters.{every, letterChar, digitChar, symbolChar, wordChar}
-use Rattle.smtlib.specs.Tokens.{symbol, reserved, numeral, hexadecimal, binary, keyword, listed, reservedWords, digitValue, digits, simple, number, leadingZero, plainWord, tokenOf}
-use Rattle.smtlib.proofs.Printing.{digitByte, Spelled}
+use Rattle.smtlib.specs.Tokens.{symbol, reserved, numeral, hexadecimal, binary, keyword, reservedWords, digitValue, digits, simple, number, leadingZero, plainWord, tokenOf}
+use Rattle.smtlib.specs.Spelling.{digitByte, Spelled}
 
 -- ---- names
 

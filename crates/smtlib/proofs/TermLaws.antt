@@ -1,15 +1,15 @@
 -- The values of atoms and applications, by the signature of the function and the sorts of its arguments. Assumes nothing.
-use mathlib.Core.Path.{_≡_, refl}
-use mathlib.Core.Bool.{Bool}
-use mathlib.Core.List.{List}
+use mathlib.Core.Path.{_≡_, refl, ap, _∙_}
+use mathlib.Core.Bool.{Bool, true, false}
+use mathlib.Core.List.{List, [], _∷_}
 use mathlib.Core.Option.{none, some}
 use Prim.Native.Nat.{ℕ, _*_}
 use lib.ListN.{length}
 use borrow.Author.Tests.{eq-eqb}
 use Rattle.smtlib.specs.Tokens.{symbol, hexadecimal, binary}
 use Rattle.smtlib.specs.Sexps.{Sexp, atom, nil, cons}
-use Rattle.smtlib.specs.Values.{Sort, bool, bitVec, Val, Value, truth, bits, sorted, onWidth, onSort}
-use Rattle.smtlib.specs.Theory.{two, left-assoc, right-assoc, chained, Signature, constant, truths1, truths2, relation, choice, vectors1, vectors2, order, Meaning, function}
+use Rattle.smtlib.specs.Values.{Sort, bool, bitVec, Val, Value, truth, bits, rejected, sorted, onWidth, onSort}
+use Rattle.smtlib.specs.Theory.{Attribute, two, left-assoc, right-assoc, chained, pairs, Signature, constant, truths1, truths2, relation, choice, vectors1, vectors2, order, Meaning, byAttribute, function}
 use Rattle.smtlib.specs.Terms.{Environment, numberOf, atomValue, value}
 
 -- (n a), (n a b), (n a b c)
@@ -24,15 +24,23 @@ call3 n a b c = cons (atom (symbol n)) (cons a (cons b (cons c nil)))
 
 -- the table has this function under this name
 abbrev pub Means : List ℕ → (g : Signature) → Meaning g → Type 0
-Means n g f = function n ≡ some (record { name = n; signature = g; meaning = f })
+Means n g f = function n ≡ some (record { signature = g; meaning = f })
 
 -- ---- arguments of one width, and of one sort
 pub one-width : (f : ℕ → ℕ → ℕ → Value) (m s t : ℕ) → onWidth f (bits m s) (bits m t) ≡ f m s t
-one-width f m s t = rw (eq-eqb m m refl, onWidth)
+one-width f m s t = ap (λ (q : Bool). elim q as (λ _. Value) [ true ↦ f m s t | false ↦ rejected ]) (eq-eqb m m refl)
 
 pub one-sort : (f : (s : Sort) → Val s → Val s → Value) (s : Sort) (x y : Val s) → onSort f (sorted s x) (sorted s y) ≡ f s x y
 one-sort f bool x y = refl
 one-sort f (bitVec m) x y = one-width (λ w. f (bitVec w)) m x y
+
+-- two arguments are taken alike, whatever the attribute
+pub two-arguments : (t : Attribute) (f : Value → Value → Value) (a b : Value) → byAttribute t f (a ∷ b ∷ []) ≡ f a b
+two-arguments two f a b = refl
+two-arguments left-assoc f a b = refl
+two-arguments right-assoc f a b = refl
+two-arguments chained f a b = refl
+two-arguments pairs f a b = refl
 
 module _ (env : Environment) where
   -- ---- atoms
@@ -75,9 +83,9 @@ module _ (env : Environment) where
       unfolding value
       value-relation {f} e s x y p q = rw (e, p, q) (one-sort (λ s x y. truth (f s x y)) s x y)
 
-      pub value-vectors2 : {f : ℕ → ℕ → ℕ → ℕ} → Means n (vectors2 two) f → {m s t : ℕ} → value env a ≡ bits m s → value env b ≡ bits m t → value env (call2 n a b) ≡ bits m (f m s t)
+      pub value-vectors2 : {f : ℕ → ℕ → ℕ → ℕ} (at : Attribute) → Means n (vectors2 at) f → {m s t : ℕ} → value env a ≡ bits m s → value env b ≡ bits m t → value env (call2 n a b) ≡ bits m (f m s t)
       unfolding value
-      value-vectors2 {f} e {m} {s} {t} p q = rw (e, p, q) (one-width (λ m s t. bits m (f m s t)) m s t)
+      value-vectors2 {f} at e {m} {s} {t} p q = rw (e, p, q) (two-arguments at (onWidth (λ m s t. bits m (f m s t))) (bits m s) (bits m t) ∙ one-width (λ m s t. bits m (f m s t)) m s t)
 
       pub value-order : {f : ℕ → ℕ → ℕ → Bool} → Means n (order two) f → {m s t : ℕ} → value env a ≡ bits m s → value env b ≡ bits m t → value env (call2 n a b) ≡ truth (f m s t)
       unfolding value

@@ -2,7 +2,7 @@
 use mathlib.Core.Path.{_≡_, refl}
 use mathlib.Core.List.{map}
 use mathlib.Core.Option.{none, some}
-use Rattle.smtlib.specs.Satisfaction.{metBy}
+use Rattle.smtlib.proofs.Tests.{metBy}
 use Rattle.smtlib.proofs.Running.{termValue, scriptRead, answers}
 use Rattle.smtlib.proofs.TermData.{terms}
 use Rattle.smtlib.proofs.ScriptData.{satisfied, tried, refused}

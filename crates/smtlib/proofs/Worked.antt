@@ -7,6 +7,8 @@ use mathlib.Core.Option.{some}
 use lib.Dec.{lit<, lit≤}
 use Rattle.lists.proofs.TestLaws.{both}
 use Rattle.lists.specs.Ascii.{ascii}
+use Rattle.lists.specs.Names.{sameBytes}
+use Rattle.lists.specs.First.{andThen}
 use Rattle.smtlib.specs.Characters.{every, letterChar, digitChar, symbolChar}
 use Rattle.smtlib.specs.Tokens.{symbol, reserved, numeral, hexadecimal, reservedWords}
 use Rattle.smtlib.specs.Sexps.{Sexp, atom, nil, cons, sexpsOf}
@@ -14,15 +16,16 @@ use Rattle.smtlib.specs.BitVectors.{bvslt}
 use Rattle.smtlib.specs.Values.{bool, bitVec, truth, sortOf}
 use Rattle.smtlib.specs.Theory.{functions, otherNames, function, theoryName}
 use Rattle.smtlib.specs.Terms.{value}
-use Rattle.smtlib.specs.Commands.{logics}
 use Rattle.smtlib.specs.Settings.{environment}
-use Rattle.smtlib.specs.Scripts.{Script, scriptIn}
-use Rattle.smtlib.specs.Satisfaction.{andThen, scriptOf, declared, wellFormed, isTrue, allTrue, Satisfies, satisfiedBy}
-use Rattle.smtlib.proofs.Printing.{digitByte, lines, Spelled, Listing, lines-sexps}
+use Rattle.smtlib.specs.Scripts.{Script, setsLogic, scriptIn}
+use Rattle.smtlib.specs.Satisfaction.{scriptOf, declared, isTrue, allTrue, Satisfies}
+use Rattle.smtlib.proofs.Tests.{wellFormed, satisfiedBy}
+use Rattle.smtlib.specs.Spelling.{digitByte, Spelled}
+use Rattle.smtlib.proofs.Printing.{lines, Listing, lines-sexps}
 use Rattle.smtlib.proofs.Spelling.{spelled-symbol, spelled-reserved, spelled-hexadecimal, spelled-numeral}
 use Rattle.smtlib.proofs.TermLaws.{value-symbol, value-hexadecimal, value-order}
 use Rattle.smtlib.proofs.SortLaws.{sort-formula}
-use Rattle.smtlib.proofs.CommandLaws.{logic-read, declare-read, assert-read, check-read, exit-read, vector-read, begins, declares-next, asserts-next, asks-next, exits, fresh-name}
+use Rattle.smtlib.proofs.CommandLaws.{declare-read, assert-read, check-read, exit-read, vector-read, begins, declares-next, asserts-next, asks-next, exits, fresh-name}
 use Rattle.smtlib.proofs.Acceptance.{accepted-sorted}
 use Rattle.smtlib.proofs.DigitLaws.{Good, read-good}
 use Rattle.smtlib.proofs.Bounds.{Proper, setting-proper}
@@ -56,11 +59,11 @@ unfolding digitByte
 text-lines = refl
 
 spelled-x : Spelled (symbol (ascii "x"))
-unfolding every letterChar digitChar symbolChar reservedWords
+unfolding sameBytes every letterChar digitChar symbolChar reservedWords
 spelled-x = spelled-symbol (ascii "x") refl refl
 
 sexps-listing : Listing sexps
-unfolding every letterChar digitChar symbolChar reservedWords
+unfolding sameBytes every letterChar digitChar symbolChar reservedWords
 sexps-listing = (
   (spelled-reserved _ refl refl, (spelled-symbol _ refl refl, tt)),
   (
@@ -81,16 +84,16 @@ script = record { declares = record { name = ascii "x"; sort = bitVec 4 } ∷ []
 
 -- its term, in every setting
 claim-value : (k : ℕ) → value (environment (script .declares) (k ∷ [])) claim ≡ truth (bvslt 4 k 10)
-unfolding environment function functions
+unfolding sameBytes environment function functions
 claim-value k =
     value-order (environment (script .declares) (k ∷ [])) (ascii "bvslt") (atom (symbol (ascii "x"))) (atom (hexadecimal (10 ∷ []))) refl
     (value-symbol (environment (script .declares) (k ∷ [])) (ascii "x") refl) (value-hexadecimal (environment (script .declares) (k ∷ [])) (10 ∷ []))
 
 -- its commands, one by one
 commands-read : scriptIn sexps ≡ some script
-unfolding logics theoryName function functions otherNames environment
+unfolding sameBytes setsLogic theoryName function functions otherNames environment
 commands-read =
-    begins _ _ (logic-read (ascii "QF_BV") refl)
+    begins _ _ refl
     ∙ declares-next [] [] false _ _ (declare-read (ascii "x") _ (vector-read (4 ∷ []) (lit≤ tt))) (fresh-name [] (ascii "x") refl refl refl)
     ∙ asserts-next (script .declares) [] false _ _ (assert-read claim) (sort-formula (script .declares) claim (0 ∷ []) (lit< tt, tt) (ap sortOf (claim-value 0)))
     ∙ asks-next (script .declares) (claim ∷ []) false _ _ check-read
@@ -103,14 +106,14 @@ text-script = ap (λ o. andThen o scriptIn) text-sexps ∙ commands-read
 -- so its settings are known: the numbers of 4 bits that stand for less than -6
 text-settings : (k : ℕ) → k < 16 → bvslt 4 k 10 ≡ true → Satisfies text (k ∷ [])
 unfolding allTrue
-text-settings k h e = satisfies-read text (k ∷ []) text-script .1 (record { fits = (h, tt); holds = rw (claim-value k, e) })
+text-settings k h e = satisfies-read text (k ∷ []) text-script .1 (record { assigns = (h, tt); holds = rw (claim-value k, e) })
 
 settings-text : (k : ℕ) → Satisfies text (k ∷ []) → (k < 16) × (bvslt 4 k 10 ≡ true)
 unfolding allTrue
 settings-text k m =
     let w = satisfies-read text (k ∷ []) text-script .0 m in
     let t : isTrue (value (environment (script .declares) (k ∷ [])) claim) && true ≡ true = w .holds in
-    (w .fits .0, ap isTrue (sym (claim-value k)) ∙ both (isTrue (value (environment (script .declares) (k ∷ [])) claim)) true t .0)
+    (w .assigns .0, ap isTrue (sym (claim-value k)) ∙ both (isTrue (value (environment (script .declares) (k ∷ [])) claim)) true t .0)
 
 -- its assertion has sort Bool in each of them
 text-sorted : (k : ℕ) → k < 16 → sortOf (value (environment (script .declares) (k ∷ [])) claim) ≡ some bool

@@ -1,6 +1,6 @@
 -- What each byte may be part of (SMT-LIB 2.6, section 3.1).
 use Prim.Native.Nat.{ℕ}
-use mathlib.Core.Bool.{Bool, true, false, not, _&&_, _||_}
+use mathlib.Core.Bool.{Bool, true, false, cond, not, _&&_, _||_}
 use mathlib.Core.List.{List, [], _∷_}
 use lib.Dec.{eqb, leb}
 use Rattle.lists.specs.Ascii.{ascii}
@@ -52,19 +52,10 @@ pub data Class : Type 0 where
   inWord blank leftParen rightParen semicolon bar noToken : Class
 
 unfoldable pub classOf : ℕ → Class
-classOf c = elim (wordChar c) [
-  | true ↦ inWord
-  | false ↦ elim (whiteSpace c) [
-    | true ↦ blank
-    | false ↦ elim (eqb c 40) [
-      | true ↦ leftParen
-      | false ↦ elim (eqb c 41) [
-        | true ↦ rightParen
-        | false ↦ elim (eqb c 59) [
-          | true ↦ semicolon
-          | false ↦ elim (eqb c 124) [ true ↦ bar | false ↦ noToken ]
-        ]
-      ]
-    ]
-  ]
-]
+classOf c =
+    cond (wordChar c) inWord (
+    cond (whiteSpace c) blank (
+    cond (eqb c 40) leftParen (
+    cond (eqb c 41) rightParen (
+    cond (eqb c 59) semicolon (
+    cond (eqb c 124) bar noToken)))))

@@ -9,3 +9,4 @@ pub mod Commands
 pub mod Settings
 pub mod Scripts
 pub mod Satisfaction
+pub mod Spelling

@@ -1,16 +1,17 @@
 -- Scripts (SMT-LIB 2.6, chapter 4): what a list of commands declares and asserts, or none where it is rejected.
 use Prim.Native.Nat.{ℕ}
-use mathlib.Core.Bool.{Bool, true, false, not, _||_}
+use mathlib.Core.Bool.{Bool, true, false, not, _&&_, _||_}
 use mathlib.Core.List.{List, [], _∷_, _++_}
 use mathlib.Core.Option.{Option, none, some}
 use Rattle.lists.specs.Ascii.{ascii}
+use Rattle.lists.specs.Names.{sameBytes}
+use Rattle.lists.specs.Few.{exactly0, exactly2}
 use Rattle.smtlib.specs.Characters.{oneOf}
-use Rattle.smtlib.specs.Tokens.{same}
-use Rattle.smtlib.specs.Sexps.{Sexp, atom, nil, cons}
+use Rattle.smtlib.specs.Sexps.{Sexp, atom, nil, cons, symbolIn, reservedIn, items}
 use Rattle.smtlib.specs.Values.{Sort, bool, bitVec, sortOf}
 use Rattle.smtlib.specs.Theory.{theoryName}
 use Rattle.smtlib.specs.Terms.{value}
-use Rattle.smtlib.specs.Commands.{Declaration, Command, setLogic, declareFun, assertion, checkSat, exit, unknown, exactly0, commandOf}
+use Rattle.smtlib.specs.Commands.{Declaration, declareFun, assertion, checkSat, exit, unknown, named, commandOf}
 use Rattle.smtlib.specs.Settings.{environment, zeros}
 
 pub record Script : Type 0 where
@@ -26,10 +27,10 @@ solverName (c ∷ n) = oneOf (ascii "@.") c
 
 abbrev pub isDeclared : List Declaration → List ℕ → Bool
 isDeclared [] n = false
-isDeclared (d ∷ ds) n = same (d .name) n || isDeclared ds n
+isDeclared (d ∷ ds) n = sameBytes (d .name) n || isDeclared ds n
 
-unfoldable pub fresh : List Declaration → List ℕ → Bool
-fresh ds n = not (theoryName n || (solverName n || isDeclared ds n))
+unfoldable pub declarable : List Declaration → List ℕ → Bool
+declarable ds n = not (theoryName n || (solverName n || isDeclared ds n))
 
 -- ---- an assertion: a term of sort Bool, each of its symbols declared
 
@@ -51,24 +52,19 @@ unfoldable pub gather : List Declaration → List Sexp → Bool → Sexp → Opt
 gather ds es asked (atom a) = none
 gather ds es asked nil = none
 gather ds es asked (cons c s) = elim (commandOf c) [
-  | setLogic ↦ none
-  | declareFun d ↦ elim (fresh ds (d .name)) [ true ↦ gather (ds ++ (d ∷ [])) es asked s | false ↦ none ]
+  | declareFun d ↦ elim (declarable ds (d .name)) [ true ↦ gather (ds ++ (d ∷ [])) es asked s | false ↦ none ]
   | assertion e ↦ elim (formula ds e) [ true ↦ gather ds (es ++ (e ∷ [])) false s | false ↦ none ]
   | checkSat ↦ gather ds es true s
-  | exit ↦ elim asked [ true ↦ exactly0 none (some (record { declares = ds; asserts = es })) s | false ↦ none ]
+  | exit ↦ elim asked [ true ↦ exactly0 none (some (record { declares = ds; asserts = es })) (items s) | false ↦ none ]
   | unknown ↦ none
 ]
 
-abbrev pub begun : Command → Sexp → Option Script
-begun setLogic s = gather [] [] false s
-begun (declareFun d) s = none
-begun (assertion e) s = none
-begun checkSat s = none
-begun exit s = none
-begun unknown s = none
+-- (set-logic L), for the logics that are read here
+unfoldable pub setsLogic : Sexp → Bool
+setsLogic c = exactly2 false (λ w l. named "set-logic" (reservedIn w) && (named "QF_BV" (symbolIn l) || named "QF_UFBV" (symbolIn l))) (items c)
 
 -- the first command is set-logic, and no other is
 unfoldable pub scriptIn : Sexp → Option Script
 scriptIn (atom a) = none
 scriptIn nil = none
-scriptIn (cons c s) = begun (commandOf c) s
+scriptIn (cons c s) = elim (setsLogic c) [ true ↦ gather [] [] false s | false ↦ none ]

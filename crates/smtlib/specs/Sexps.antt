@@ -30,34 +30,30 @@ parse around read (wrong ∷ ts) = none
 unfoldable pub sexpsOf : List ℕ → Option Sexp
 sexpsOf bytes = parse [] nil (tokens (outside []) bytes)
 
--- ---- what an s-expression is, if it is an atom of one kind
+-- ---- what an s-expression is
+
+-- what s, r or n makes of a symbol, a reserved word or a numeral; d of anything else
+abbrev pub byKind : {A : Type 0} → A → (List ℕ → A) → (List ℕ → A) → (List ℕ → A) → Sexp → A
+byKind d s r n (atom (symbol w)) = s w
+byKind d s r n (atom (reserved w)) = r w
+byKind d s r n (atom (numeral ds)) = n ds
+byKind d s r n (atom (hexadecimal ds)) = d
+byKind d s r n (atom (binary ds)) = d
+byKind d s r n (atom (keyword w)) = d
+byKind d s r n nil = d
+byKind d s r n (cons x e) = d
 
 abbrev pub symbolIn : Sexp → Option (List ℕ)
-symbolIn (atom (symbol n)) = some n
-symbolIn (atom (reserved w)) = none
-symbolIn (atom (numeral ds)) = none
-symbolIn (atom (hexadecimal ds)) = none
-symbolIn (atom (binary ds)) = none
-symbolIn (atom (keyword w)) = none
-symbolIn nil = none
-symbolIn (cons x s) = none
+symbolIn e = byKind none some (λ w. none) (λ ds. none) e
 
 abbrev pub reservedIn : Sexp → Option (List ℕ)
-reservedIn (atom (symbol n)) = none
-reservedIn (atom (reserved w)) = some w
-reservedIn (atom (numeral ds)) = none
-reservedIn (atom (hexadecimal ds)) = none
-reservedIn (atom (binary ds)) = none
-reservedIn (atom (keyword w)) = none
-reservedIn nil = none
-reservedIn (cons x s) = none
+reservedIn e = byKind none (λ w. none) some (λ ds. none) e
 
 abbrev pub numeralIn : Sexp → Option (List ℕ)
-numeralIn (atom (symbol n)) = none
-numeralIn (atom (reserved w)) = none
-numeralIn (atom (numeral ds)) = some ds
-numeralIn (atom (hexadecimal ds)) = none
-numeralIn (atom (binary ds)) = none
-numeralIn (atom (keyword w)) = none
-numeralIn nil = none
-numeralIn (cons x s) = none
+numeralIn e = byKind none (λ w. none) (λ w. none) some e
+
+-- what a list has; an atom is taken for a list of itself, so that it is never the empty one
+abbrev pub items : Sexp → List Sexp
+items (atom a) = atom a ∷ []
+items nil = []
+items (cons x s) = x ∷ items s

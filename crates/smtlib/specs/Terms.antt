@@ -3,10 +3,11 @@ use Prim.Native.Nat.{ℕ, _+_, _*_}
 use mathlib.Core.List.{List, [], _∷_}
 use mathlib.Core.Option.{Option, none, some}
 use lib.ListN.{length}
+use Rattle.lists.specs.First.{andThen}
 use Rattle.smtlib.specs.Tokens.{Atom, symbol, reserved, numeral, hexadecimal, binary, keyword}
 use Rattle.smtlib.specs.Sexps.{Sexp, atom, nil, cons, symbolIn}
 use Rattle.smtlib.specs.Values.{Value, bits, rejected}
-use Rattle.smtlib.specs.Theory.{Row, applied, function}
+use Rattle.smtlib.specs.Theory.{FunctionRow, applied, function}
 
 -- the number of these digits to a base, behind those read so far
 abbrev pub numberFrom : ℕ → ℕ → List ℕ → ℕ
@@ -20,11 +21,11 @@ numberOf base ds = numberFrom base 0 ds
 abbrev pub Environment : Type 0
 Environment = List ℕ → Value
 
-abbrev pub apply : Row → List Value → Value
+abbrev pub apply : FunctionRow → List Value → Value
 apply r vs = applied (r .signature) (r .meaning) vs
 
 -- a theory's function with no argument, or a declared symbol
-abbrev pub symbolValue : Option Row → Value → Value
+abbrev pub symbolValue : Option FunctionRow → Value → Value
 symbolValue none v = v
 symbolValue (some r) v = apply r []
 
@@ -38,21 +39,16 @@ atomValue env (binary ds) = bits (length ds) (numberOf 2 ds)
 atomValue env (keyword w) = rejected
 
 -- an application has at least one argument
-abbrev pub application : Option Row → List Value → Value
+abbrev pub application : Option FunctionRow → List Value → Value
 application none vs = rejected
 application (some r) [] = rejected
 application (some r) (v ∷ vs) = apply r (v ∷ vs)
-
--- the function that is applied
-abbrev pub headed : Option (List ℕ) → Option Row
-headed none = none
-headed (some n) = function n
 
 unfoldable mutual
   pub value : Environment → Sexp → Value
   value env (atom a) = atomValue env a
   value env nil = rejected
-  value env (cons f s) = application (headed (symbolIn f)) (values env s)
+  value env (cons f s) = application (andThen (symbolIn f) function) (values env s)
 
   pub values : Environment → Sexp → List Value
   values env (atom a) = rejected ∷ []

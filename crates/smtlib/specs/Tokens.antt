@@ -1,10 +1,10 @@
 -- A text's bytes as tokens (SMT-LIB 2.6, section 3.1). String literals and decimals are rejected: no command or term that is read here has one.
 use Prim.Native.Nat.{ℕ, _-_}
-use mathlib.Core.Bool.{Bool, true, false, not, _&&_}
+use mathlib.Core.Bool.{Bool, true, false, cond, not, _&&_}
 use mathlib.Core.List.{List, [], _∷_, _++_}
 use mathlib.Core.Option.{Option, none, some}
 use lib.Dec.{eqb, ltb}
-use Rattle.lists.specs.Ascii.{ascii}
+use Rattle.lists.specs.Names.{listed, words}
 use Rattle.smtlib.specs.Characters.{every, among, digitChar, symbolChar, lineBreak, character, quotable, Class, inWord, blank, leftParen, rightParen, semicolon, bar, noToken, classOf}
 
 -- a token that is no parenthesis; numbers are given by the values of their digits, the first one first
@@ -22,74 +22,20 @@ pub data Token : Type 0 where
   -- bytes that are no token
   wrong : Token
 
--- two names are the same, byte for byte
-abbrev pub same : List ℕ → List ℕ → Bool
-same [] [] = true
-same [] (d ∷ t) = false
-same (c ∷ s) [] = false
-same (c ∷ s) (d ∷ t) = elim (eqb c d) [ true ↦ same s t | false ↦ false ]
-
--- n is one of these names
-abbrev pub listed : List (List ℕ) → List ℕ → Bool
-listed [] n = false
-listed (m ∷ ms) n = elim (same m n) [ true ↦ true | false ↦ listed ms n ]
-
 -- the reserved words, and then the names of commands, which are reserved too
 unfoldable pub reservedWords : List (List ℕ)
 reservedWords =
-    ascii "_"
-    ∷ ascii "!"
-    ∷ ascii "as"
-    ∷ ascii "let"
-    ∷ ascii "exists"
-    ∷ ascii "forall"
-    ∷ ascii "match"
-    ∷ ascii "par"
-    ∷ ascii "BINARY"
-    ∷ ascii "DECIMAL"
-    ∷ ascii "HEXADECIMAL"
-    ∷ ascii "NUMERAL"
-    ∷ ascii "STRING"
-    ∷ ascii "assert"
-    ∷ ascii "check-sat"
-    ∷ ascii "check-sat-assuming"
-    ∷ ascii "declare-const"
-    ∷ ascii "declare-datatype"
-    ∷ ascii "declare-datatypes"
-    ∷ ascii "declare-fun"
-    ∷ ascii "declare-sort"
-    ∷ ascii "define-fun"
-    ∷ ascii "define-fun-rec"
-    ∷ ascii "define-funs-rec"
-    ∷ ascii "define-sort"
-    ∷ ascii "echo"
-    ∷ ascii "exit"
-    ∷ ascii "get-assertions"
-    ∷ ascii "get-assignment"
-    ∷ ascii "get-info"
-    ∷ ascii "get-model"
-    ∷ ascii "get-option"
-    ∷ ascii "get-proof"
-    ∷ ascii "get-unsat-assumptions"
-    ∷ ascii "get-unsat-core"
-    ∷ ascii "get-value"
-    ∷ ascii "pop"
-    ∷ ascii "push"
-    ∷ ascii "reset"
-    ∷ ascii "reset-assertions"
-    ∷ ascii "set-info"
-    ∷ ascii "set-logic"
-    ∷ ascii "set-option"
-    ∷ []
+    words "_ ! as let exists forall match par BINARY DECIMAL HEXADECIMAL NUMERAL STRING"
+    ++ (words "assert check-sat check-sat-assuming declare-const declare-datatype declare-datatypes declare-fun declare-sort"
+    ++ (words "define-fun define-fun-rec define-funs-rec define-sort echo exit get-assertions get-assignment get-info get-model"
+    ++ (words "get-option get-proof get-unsat-assumptions get-unsat-core get-value pop push reset reset-assertions"
+    ++ words "set-info set-logic set-option")))
 
 -- ---- words
 
 -- a digit's value, in either case; 16 where the byte is no digit
 unfoldable pub digitValue : ℕ → ℕ
-digitValue c = elim (digitChar c) [
-  | true ↦ c - 48
-  | false ↦ elim (among 97 102 c) [ true ↦ c - 87 | false ↦ elim (among 65 70 c) [ true ↦ c - 55 | false ↦ 16 ] ]
-]
+digitValue c = cond (digitChar c) (c - 48) (cond (among 97 102 c) (c - 87) (cond (among 65 70 c) (c - 55) 16))
 
 -- the values of digits to a base up to 16
 unfoldable pub digits : ℕ → List ℕ → Option (List ℕ)
@@ -118,30 +64,18 @@ leadingZero (c ∷ d ∷ s) = eqb c 48
 
 abbrev pub hashed : List ℕ → Token
 hashed [] = wrong
-hashed (c ∷ s) = elim (eqb c 120) [
-  | true ↦ number hexadecimal (digits 16 s)
-  | false ↦ elim (eqb c 98) [ true ↦ number binary (digits 2 s) | false ↦ wrong ]
-]
+hashed (c ∷ s) = cond (eqb c 120) (number hexadecimal (digits 16 s)) (cond (eqb c 98) (number binary (digits 2 s)) wrong)
 
 abbrev pub plainWord : List ℕ → Token
-plainWord w = elim (simple w) [
-  | true ↦ elim (listed reservedWords w) [ true ↦ single (reserved w) | false ↦ single (symbol w) ]
-  | false ↦ wrong
-]
+plainWord w = cond (simple w) (single (cond (listed reservedWords w) (reserved w) (symbol w))) wrong
 
 -- the token of a whole word, by its first byte
 unfoldable pub tokenOf : List ℕ → Token
 tokenOf [] = wrong
-tokenOf (c ∷ s) = elim (digitChar c) [
-  | true ↦ elim (leadingZero (c ∷ s)) [ true ↦ wrong | false ↦ number numeral (digits 10 (c ∷ s)) ]
-  | false ↦ elim (eqb c 35) [
-    | true ↦ hashed s
-    | false ↦ elim (eqb c 58) [
-      | true ↦ elim (simple s) [ true ↦ single (keyword s) | false ↦ wrong ]
-      | false ↦ plainWord (c ∷ s)
-    ]
-  ]
-]
+tokenOf (c ∷ s) =
+    cond (digitChar c) (cond (leadingZero (c ∷ s)) wrong (number numeral (digits 10 (c ∷ s)))) (
+    cond (eqb c 35) (hashed s) (
+    cond (eqb c 58) (cond (simple s) (single (keyword s)) wrong) (plainWord (c ∷ s))))
 
 -- ---- the whole text
 
@@ -168,14 +102,8 @@ outsideAt w c noToken = (wrong ∷ [], outside [])
 -- the tokens that are complete at a byte, and the mode behind it
 unfoldable pub step : Mode → ℕ → List Token × Mode
 step (outside w) c = outsideAt w c (classOf c)
-step (inQuotes w) c = elim (eqb c 124) [
-  | true ↦ (single (symbol w) ∷ [], outside [])
-  | false ↦ elim (quotable c) [ true ↦ ([], inQuotes (w ++ (c ∷ []))) | false ↦ (wrong ∷ [], inQuotes w) ]
-]
-step inComment c = elim (lineBreak c) [
-  | true ↦ ([], outside [])
-  | false ↦ elim (character c) [ true ↦ ([], inComment) | false ↦ (wrong ∷ [], inComment) ]
-]
+step (inQuotes w) c = cond (eqb c 124) (single (symbol w) ∷ [], outside []) (cond (quotable c) ([], inQuotes (w ++ (c ∷ []))) (wrong ∷ [], inQuotes w))
+step inComment c = cond (lineBreak c) ([], outside []) (cond (character c) ([], inComment) (wrong ∷ [], inComment))
 
 -- a comment may end with the text, a quoted symbol may not
 abbrev pub last : Mode → List Token

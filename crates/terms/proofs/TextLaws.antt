@@ -14,8 +14,9 @@ use Rattle.kinds.specs.declared.Shape.{Shape}
 use Rattle.kinds.specs.declared.Shape.the-variants.{Wrong, Bare, Valued, Named, One, Two, Three}
 use Rattle.kinds.specs.Kinds.{row}
 use Rattle.layout.specs.Limits.{mostVariables, nodeBytes, nodePlace}
-use Rattle.layout.specs.Starts.{shapeAt, operandsOf, startBy, startAt, Ordered, Listed, Placed}
+use Rattle.layout.specs.Starts.{shapeAt, operandsOf, startBy, startAt, Ordered, VariableBelow}
 use Rattle.layout.specs.Parts.{variableCount, table}
+use Rattle.layout.specs.LaidOut.{Placed}
 use Rattle.layout.specs.Fold.{foundBy}
 use Rattle.layout.proofs.StartLaws.{Before, lower, start-is}
 use Rattle.layout.proofs.FoldLaws.{node-is}
@@ -120,7 +121,7 @@ module _ {s : List ℕ} where
   short-below (suc m) n h ok =
       let p = placed ok in
       rw (from-record ok, start-is (table s) n (lower p))
-      (bound (shapeAt (table s n)) (table s n) (wordOf (table s n .kind)) n (textAt s) (startAt (table s)) (word-short _) (p .ordered) (lower p)
+      (bound (shapeAt (table s n)) (table s n) (wordOf (table s n .kind)) n (textAt s) (startAt (table s)) (word-short (table s n .kind)) (p .ordered) (lower p)
       (λ j l. short-below m j (omega arith) (record { accepted = ok .accepted; below = omega (arith, ok .below) })))
 
   pub text-short : {n : ℕ} → AcceptedNode s n → length (textAt s n) ≤ longestText
@@ -147,7 +148,7 @@ module _ {s : List ℕ} {n : ℕ} (ok : AcceptedNode s n) {r : Record} (er : r �
   -- a variable's number
   pub named-small : h ≡ Named → r .a < mostVariables
   named-small eg =
-      let l : table s n .a < variableCount s = subst (λ (g : Shape). Listed g (table s n) (variableCount s)) (sym as-shape ∙ eg) (placed ok .listed) in
+      let l : table s n .a < variableCount s = subst (λ (g : Shape). VariableBelow g (table s n) (variableCount s)) (sym as-shape ∙ eg) (placed ok .listed) in
       omega (arith, ap (λ (x : Record). x .a) er, accepted-counted s (ok .accepted) .few)
 
   -- nodes with operands

@@ -13,7 +13,6 @@ use Rattle.lists.proofs.JoinedLaws.{joined-append}
 use Rattle.meaning.specs.declared.Sort.the-variants.{Truth}
 use Rattle.meaning.specs.Tree.{Tree, neg}
 use Rattle.meaning.specs.Rule.{Variable}
-use Rattle.kinds.specs.Rows.{by-rows}
 use Rattle.layout.specs.Limits.{blockBytes}
 use Rattle.layout.specs.Fold.{ofTree}
 use Rattle.layout.specs.Parts.{nodeCount, variableCount, variableAt, table, ruleIn}
@@ -76,7 +75,7 @@ module _ (s : List ℕ) (e : refusalOf s ≡ none) where
   goal-text = sym (goal-found (textStep literal symbolText) [] (table s) (accepted-sound s e))
 
   goal-is : negated s ++ ascii "(check-sat)\n(exit)\n" ≡ goalLines s
-  unfolding goalLines ofTree by-rows wordOf
+  unfolding goalLines ofTree
   goal-is =
       flat-goal (ascii "(assert ") (ascii "(") (ascii "not") (ascii " ") (text literal symbolText (ruleIn s .goal)) (ascii ")") (ascii "\n") (ascii "(check-sat)\n(exit)\n")
       ∙ ap (λ (t : List ℕ). ascii "(assert (not " ++ (t ++ ascii "))\n(check-sat)\n(exit)\n")) goal-text

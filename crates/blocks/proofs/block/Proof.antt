@@ -2,22 +2,23 @@
 use borrow.Author.Needs.{needs}
 use mathlib.Core.Path.{refl, sym, _∙_}
 use native.Mathlib.Nat.{add-comm, add-sub-cancel-left}
+use Rattle.lists.proofs.PartLaws.{given-part, empty-part}
 use Rattle.blocks.proofs.BlockLaws.{given-out, given-wrong, given-right}
 use Rattle.blocks.proofs.block.Statement.{statement}
 use Rattle.blocks.proofs.block.Tie as tie
 
 returns : tie.Need-returns
 returns c =
-    rw (given-out _ _ (c .before .if1 .taken)) (record { bytes = refl; memory = refl; place = add-comm _ _ })
+    empty-part (given-out _ _ (c .before .if1 .taken)) (record { bytes = refl; memory = refl; place = add-comm _ _ })
 
 returns-2 : tie.Need-returns-2
 returns-2 c =
-    rw (given-right _ _ (search needs) (sym (c .before .before .block-right .ensures) ∙ c .before .if2 .taken))
+    given-part (given-right _ _ (search needs) (sym (c .before .before .block-right .ensures) ∙ c .before .if2 .taken))
     (record { bytes = rw add-sub-cancel-left; memory = refl; place = add-comm _ _ })
 
 returns-3 : tie.Need-returns-3
 returns-3 c =
-    rw (given-wrong _ _ (sym (c .before .before .block-right .ensures) ∙ c .before .if2 .left))
+    empty-part (given-wrong _ _ (sym (c .before .before .block-right .ensures) ∙ c .before .if2 .left))
     (record { bytes = refl; memory = refl; place = add-comm _ _ })
 
 pub block-spec : {M : Type 1} → statement M

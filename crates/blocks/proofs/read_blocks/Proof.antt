@@ -21,4 +21,4 @@ returns-4 c =
 
 pub read-blocks-spec : {M : Type 1} → statement M
 read-blocks-spec =
-    tie.close (tie.spec returns returns-2 (λ c. search needs) returns-3 (λ c κs. search needs) returns-4)
+    tie.close (tie.spec returns returns-2 returns-3 (λ c κs. search needs) returns-4)

@@ -4,7 +4,7 @@ use mathlib.Core.Path.{_≡_}
 use mathlib.Core.List.{List}
 use borrow.Author.Needs.{needs}
 use Rattle.lists.specs.Ascii.{ascii}
-use Rattle.records.specs.Variables.{sameBytes}
+use Rattle.lists.specs.Names.{sameBytes}
 use Rattle.answers.specs.declared.Request.the-variants.{Read, Script, Check, Tally}
 use Rattle.ragwashin.specs.declared.Word.{Word}
 use Rattle.ragwashin.specs.declared.Word.the-variants.{Asks, Help, Unknown}

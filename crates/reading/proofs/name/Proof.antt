@@ -3,13 +3,14 @@ use mathlib.Core.Path.{refl}
 use native.Mathlib.Nat.{add-comm}
 use native.Mathlib.Omega.{arith}
 use borrow.Author.Needs.{needs}
-use Rattle.reading.proofs.ReadLaws.{refused-name, unlisted-name, listed-name, accepted-long, name-inside}
+use Rattle.lists.proofs.PartLaws.{given-part, empty-part}
+use Rattle.reading.proofs.ReadLaws.{refused-name, listed-name, accepted-long, name-inside}
 use Rattle.reading.proofs.name.Statement.{statement}
 use Rattle.reading.proofs.name.Tie as tie
 
 returns : tie.Need-returns
 returns c =
-    rw (refused-name _ (c .before .before .before .read .ensures) _ (c .before .enum-told2 .given .1))
+    empty-part (refused-name _ (c .before .before .before .read .ensures) (c .before .enum-told2 .given .1))
     (record { bytes = refl; memory = refl; place = add-comm _ _ })
 
 variable-count-requires : tie.Need-variable-count-requires
@@ -17,8 +18,7 @@ variable-count-requires c κs = accepted-long _ (c .before .before .read .ensure
 
 returns-2 : tie.Need-returns-2
 returns-2 c =
-    let b = c .before .before .before .before in
-    rw (unlisted-name _ (b .before .before .read .ensures) (b .enum-told .given .1) (b .before .before .before .before .args .variable .0) (omega (arith, c .before .before .before .variable-count .ensures)))
+    empty-part (λ g. omega (arith, g .1, c .before .before .before .variable-count .ensures))
     (record { bytes = refl; memory = refl; place = add-comm _ _ })
 
 name-in-requires : tie.Need-name-in-requires
@@ -29,7 +29,7 @@ name-in-requires c κs =
 returns-3 : tie.Need-returns-3
 returns-3 c =
     let b = c .before .before .before .before .before in
-    rw (listed-name _ (b .before .before .read .ensures) (b .enum-told .given .1) (b .before .before .before .before .args .variable .0) (omega (arith, c .before .before .before .before .variable-count .ensures)))
+    given-part (listed-name _ (b .before .before .read .ensures) (b .enum-told .given .1) (omega (arith, c .before .before .before .before .variable-count .ensures)))
     (rw (c .before .variable-place .ensures) at (c .name-in .ensures))
 
 pub name-spec : {M : Type 1} → statement M

@@ -3,7 +3,7 @@ use Prim.Native.Nat.{_≤_, _-_}
 use mathlib.Core.Path.{_≡_, refl, sym, _∙_}
 use borrow.Author.Needs.{needs}
 use lib.ListN.{length, drop}
-use Rattle.records.specs.Variables.{sameBytes}
+use Rattle.lists.specs.Names.{sameBytes}
 use Rattle.records.proofs.StepLaws.{same-longer, same-pass, same-stop, same-done}
 use Rattle.records.proofs.same_bytes.Statement.{statement}
 use Rattle.records.proofs.same_bytes.Tie as tie

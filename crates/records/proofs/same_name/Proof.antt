@@ -1,7 +1,7 @@
 -- `same_name` meets its contract: `same_bytes` of the two parts that `name_in` hands back. Assumes nothing.
 use borrow.Author.Needs.{needs}
 use mathlib.Core.Path.{ap₂, _∙_}
-use Rattle.records.specs.Variables.{sameBytes}
+use Rattle.lists.specs.Names.{sameBytes}
 use Rattle.records.proofs.same_name.Statement.{statement}
 use Rattle.records.proofs.same_name.Tie as tie
 

@@ -12,11 +12,12 @@ use Rattle.meaning.specs.Rule.{Variable, valueIn}
 use Rattle.smtlib.specs.Tokens.{Atom}
 use Rattle.smtlib.specs.Values.{bits}
 use Rattle.smtlib.specs.Terms.{numberOf}
-use Rattle.smtlib.specs.Settings.{Fits, environment}
+use Rattle.smtlib.specs.Settings.{Assigns, environment}
 use Rattle.smtlib.proofs.TermLaws.{value-symbol}
-use Rattle.wording.proofs.Sexps.{declares}
-use Rattle.wording.proofs.Read.{Texts, symbol-stands}
-use Rattle.wording.proofs.Means.{Holding}
+use Rattle.forms.specs.Form.{Texts}
+use Rattle.forms.proofs.Sexps.{declares}
+use Rattle.forms.proofs.Read.{free, symbol-stands}
+use Rattle.forms.proofs.Means.{Holding}
 
 -- v integers of w bits
 pub record Integers (w v : ℕ) (c : List ℤ) : Type 0 where
@@ -41,14 +42,14 @@ module _ {w : ℕ} (one : 1 ≤ w) where
 
 module _ (constant : ℤ → Atom) (name : ℕ → List ℕ) (w : ℕ) where
   -- ---- the settings that fit the declarations are those of such lists
-  fits-encs : (i : ℕ) (vs : List Variable) (c : List ℤ) → length c ≡ length vs → Fits (declares constant name w i vs) (map (enc w) c)
+  fits-encs : (i : ℕ) (vs : List Variable) (c : List ℤ) → length c ≡ length vs → Assigns (declares constant name w i vs) (map (enc w) c)
   fits-encs i [] [] e = tt
   fits-encs i [] (z ∷ c) e = absurd (omega arith)
   fits-encs i (x ∷ vs) [] e = absurd (omega arith)
   fits-encs i (x ∷ vs) (z ∷ c) e = (enc-lt w z, fits-encs (suc i) vs c (omega arith))
 
   -- the integers that a setting stands for
-  fits-decs : 1 ≤ w → (i : ℕ) (vs : List Variable) (s : List ℕ) → Fits (declares constant name w i vs) s
+  fits-decs : 1 ≤ w → (i : ℕ) (vs : List Variable) (s : List ℕ) → Assigns (declares constant name w i vs) s
       → Integers w (length vs) (map (dec w) s) × (map (enc w) (map (dec w) s) ≡ s)
   fits-decs one i [] [] f = (record { all = refl; each = λ j l. absurd (omega arith) }, refl)
   fits-decs one i [] (n ∷ s) f = absurd f
@@ -57,10 +58,10 @@ module _ (constant : ℤ → Atom) (name : ℕ → List ℕ) (w : ℕ) where
       let k = fits-decs one (suc i) vs s (f .1) in
       (integers-first (dec-within w one n (f .0)) (k .0), ap₂ _∷_ (enc-dec w one n (f .0)) (k .1))
 
-  pub fits-exactly : 1 ≤ w → (vs : List Variable) (s : List ℕ) → Fits (declares constant name w 0 vs) s ↔ ((c : List ℤ) × Integers w (length vs) c × (map (enc w) c ≡ s))
+  pub fits-exactly : 1 ≤ w → (vs : List Variable) (s : List ℕ) → Assigns (declares constant name w 0 vs) s ↔ ((c : List ℤ) × Integers w (length vs) c × (map (enc w) c ≡ s))
   fits-exactly one vs s = (
     λ f. let k = fits-decs one 0 vs s f in (map (dec w) s, k .0, k .1),
-    λ p. subst (Fits (declares constant name w 0 vs)) (p .2) (fits-encs 0 vs (p .0) (p .1 .all)),
+    λ p. subst (Assigns (declares constant name w 0 vs)) (p .2) (fits-encs 0 vs (p .0) (p .1 .all)),
   )
 
 -- ---- in them each symbol holds its variable's value
@@ -77,7 +78,7 @@ holding {constant} {name} {width} {m} texts vs few c e =
     record {
       constants = λ z k. texts .constants _ z;
       symbols = λ i l.
-          value-symbol _ (name i) (texts .free i)
+          value-symbol _ (name i) (free texts i)
           ∙ symbol-stands constant name width m texts vs few (map (enc w) c) (length-map c (enc w) ∙ e) i l
           ∙ ap (bits w) (encs-at w c i (omega (arith, e)));
     }

@@ -1,41 +1,37 @@
--- A form of the script: the texts of its constants, its symbols and its width. SMT-LIB reads the script of a well-formed rule, in any form, as its
--- declarations, its ranges and its negated goal. Assumes nothing.
-use Prim.Native.Nat.{ℕ, _≤_}
+-- SMT-LIB reads the script of a well-formed rule, in any form, as its declarations, its ranges and its negated goal. Assumes nothing.
+use Prim.Native.Nat.{ℕ, suc, _≤_}
 use mathlib.Core.Path.{_≡_, refl, ap, _∙_}
 use mathlib.Core.Logic.{_↔_}
-use mathlib.Core.List.{List, map}
-use mathlib.Core.Option.{some}
+use mathlib.Core.List.{List, [], _∷_}
+use mathlib.Core.Option.{Option, some}
 use native.Mathlib.Omega.{arith}
 use lib.IntN.{ℤ}
 use lib.ListN.{length}
-use Rattle.lists.specs.Joined.{joined}
-use Rattle.meaning.specs.Rule.{Rule}
+use Rattle.lists.specs.Places.{from}
+use Rattle.meaning.specs.Rule.{Variable, Rule}
 use Rattle.layout.specs.WellFormed.{WellFormed}
-use Rattle.smtlib.specs.Tokens.{Atom, symbol, numeral}
+use Rattle.lists.specs.First.{andThen}
+use Rattle.smtlib.specs.Tokens.{Atom}
 use Rattle.smtlib.specs.Sexps.{sexpsOf}
+use Rattle.smtlib.specs.Values.{bitVec}
+use Rattle.smtlib.specs.Commands.{Declaration}
 use Rattle.smtlib.specs.Terms.{numberOf}
 use Rattle.smtlib.specs.Scripts.{Script, scriptIn}
-use Rattle.smtlib.specs.Satisfaction.{andThen, scriptOf, Meets, Satisfies}
-use Rattle.smtlib.proofs.Printing.{digitByte, spelling, Spelled, lines-sexps}
+use Rattle.smtlib.specs.Satisfaction.{scriptOf, declared, Meets, Satisfies}
+use Rattle.smtlib.specs.Spelling.{digitByte}
+use Rattle.smtlib.proofs.Printing.{lines-sexps}
 use Rattle.smtlib.proofs.SatisfactionLaws.{satisfies-read}
 use Rattle.wording.specs.Sixteen.{literal, symbolText}
-use Rattle.wording.specs.Script.{linesOf, ended, script}
-use Rattle.wording.proofs.Sexps.{chainOf, asked, constant16, width16, asked16}
-use Rattle.wording.proofs.Spelt.{lines-printed, chain-listing, literal-spelling, constant-spelled, symbol-spelled, width-spelled}
-use Rattle.wording.proofs.Read.{Texts, chain-read, texts16}
+use Rattle.wording.specs.Script.{script}
+use Rattle.forms.specs.Form.{Form, scriptBy}
+use Rattle.forms.proofs.Sexps.{chainOf, declares, asked, constant16, width16, asked16}
+use Rattle.forms.proofs.Spelt.{lines-printed, chain-listing, literal-spelling, constant-spelled, symbol-spelled, width-spelled}
+use Rattle.forms.proofs.Read.{chain-read, texts16}
 
--- the texts, for up to m variables: they are spelt and read as SMT-LIB's atoms, a constant in two's complement at the width that the digits say
-pub record Form (literal : ℤ → List ℕ) (name : ℕ → List ℕ) (digits : List ℕ) (m : ℕ) : Type 0 where
-  pub constant : ℤ → Atom
-  pub literals : (z : ℤ) → literal z ≡ spelling (constant z)
-  pub constants : (z : ℤ) → Spelled (constant z)
-  pub names : (i : ℕ) → Spelled (symbol (name i))
-  pub width : Spelled (numeral digits)
-  pub texts : Texts constant name digits m
-
--- the script in a form
-abbrev pub scriptBy : (ℤ → List ℕ) → (ℕ → List ℕ) → List ℕ → Rule → List ℕ
-scriptBy literal name digits r = joined ended (linesOf literal name (map digitByte digits) r)
+-- the declarations, by the variables' numbers
+declares-from : (constant : ℤ → Atom) (name : ℕ → List ℕ) (w i : ℕ) (vs : List Variable) → declares constant name w i vs ≡ from (λ j. record { name = name j; sort = bitVec w }) i (length vs)
+declares-from constant name w i [] = refl
+declares-from constant name w i (v ∷ vs) = ap (λ (l : List Declaration). record { name = name i; sort = bitVec w } ∷ l) (declares-from constant name w (suc i) vs)
 
 module _ {literal : ℤ → List ℕ} {name : ℕ → List ℕ} {digits : List ℕ} {m : ℕ} (form : Form literal name digits m)
     (r : Rule) (few : length (r .variables) ≤ m) (f : WellFormed r) where
@@ -50,7 +46,12 @@ module _ {literal : ℤ → List ℕ} {name : ℕ → List ℕ} {digits : List �
       let listed = lines-sexps chain (chain-listing (form .constant) name (form .constants) (form .names) digits (form .width) r) in
       ap (λ o. andThen o scriptIn) (ap sexpsOf printed ∙ listed) ∙ chain-read (form .constant) name digits m (form .texts) r few f
 
-  -- so a setting satisfies the script exactly if it meets these
+  -- so it declares a symbol for each variable
+  pub form-declares : declared (scriptBy literal name digits r) ≡ some (from (λ i. record { name = name i; sort = bitVec (numberOf 10 digits) }) 0 (length (r .variables)))
+  unfolding declared
+  form-declares = ap (λ (o : Option Script). andThen o (λ p. some (p .declares))) form-read ∙ ap some (declares-from (form .constant) name (numberOf 10 digits) 0 (r .variables))
+
+  -- and a setting satisfies it exactly if it meets what is said
   pub form-satisfied : (setting : List ℕ) → Satisfies (scriptBy literal name digits r) setting ↔ Meets says setting
   form-satisfied setting = satisfies-read (scriptBy literal name digits r) setting form-read
 

@@ -10,39 +10,43 @@ use lib.IntN.{ℤ}
 use lib.ListN.{length, getD}
 use borrow.Author.Tests.{eqb-true}
 use Rattle.lists.specs.Ascii.{ascii}
+use Rattle.lists.specs.Names.{sameBytes}
 use Rattle.lists.specs.Places.{allBelow}
 use Rattle.lists.proofs.TestLaws.{all-true}
+use Rattle.lists.proofs.NameLaws.{same-decided}
 use Rattle.numbers.specs.declared.Range.{Range}
 use Rattle.numbers.specs.Two.{enc}
 use Rattle.numbers.proofs.Bytes16.{enc16-lt}
 use Rattle.meaning.specs.declared.Sort.{Sort}
 use Rattle.meaning.specs.declared.Sort.the-variants.{Truth, Integer}
-use Rattle.meaning.specs.Tree.{Tree, tru, fls, neg, conj, disj, implies, iff, equal, less, atMost, const, var, minus, sum, difference, product, ite}
+use Rattle.meaning.specs.Tree.{Tree}
 use Rattle.meaning.specs.Rule.{Variable, Rule, noVariable}
 use Rattle.kinds.specs.declared.Kind.{Kind}
-use Rattle.kinds.specs.declared.Kind.the-variants.{Unknown, True, False, Not, And, Or, Implies, Iff, Equal, Less, AtMost, Constant, Variable as VariableKind, Minus, Sum, Difference, Product, If}
 use Rattle.kinds.specs.declared.Shape.{Shape}
 use Rattle.kinds.specs.declared.Shape.the-variants.{Wrong, Bare, Valued, Named, One, Two, Three}
-use Rattle.kinds.specs.Kinds.{row}
-use Rattle.kinds.specs.Rows.{Args, make, Known, Each, by-rows}
+use Rattle.kinds.specs.Kinds.{Args, row}
+use Rattle.kinds.specs.Rows.{make, Known}
+use Rattle.kinds.proofs.RowLaws.{Each, by-rows}
+use Rattle.kinds.proofs.ClaimLaws.{Throughout}
 use Rattle.layout.specs.Fold.{Found, ofTree}
 use Rattle.layout.specs.WellFormed.{FineVariable, Fine, WellFormed}
-use Rattle.layout.proofs.Made.{FineMade, foundMade, fine-make, found-make}
-use Rattle.smtlib.specs.Tokens.{Atom, symbol, same}
+use Rattle.layout.proofs.Made.{FineMade, foundMade, fine-parts, throughout-fine, fine-throughout, found-make}
+use Rattle.smtlib.specs.Tokens.{Atom, symbol}
 use Rattle.smtlib.specs.Sexps.{Sexp, atom}
 use Rattle.smtlib.specs.Values.{Sort as SmtSort, bool, bitVec, Val, bits, sorted}
 use Rattle.smtlib.specs.Theory.{functions, otherNames, function, theoryName}
 use Rattle.smtlib.specs.Terms.{Environment, numberOf, value}
-use Rattle.smtlib.specs.Commands.{Declaration, declareFun, logics, commandOf}
+use Rattle.smtlib.specs.Commands.{Declaration, declareFun, commandOf}
 use Rattle.smtlib.specs.Settings.{environment, zeros}
-use Rattle.smtlib.specs.Scripts.{solverName, isDeclared, formula, gather, scriptIn}
-use Rattle.smtlib.proofs.NameLaws.{same-is, same-self, stands-here, stands-later}
+use Rattle.smtlib.specs.Scripts.{isDeclared, formula, gather, setsLogic, scriptIn}
+use Rattle.smtlib.proofs.NameLaws.{no-function, stands-here, stands-later}
 use Rattle.smtlib.proofs.TermLaws.{call1, call2, call3, value-symbol, value-hexadecimal, value-constant, value-truths1, value-vectors1, value-left, value-right, value-relation, value-vectors2, value-order, value-choice}
-use Rattle.smtlib.proofs.CommandLaws.{logic-read, declare-read, assert-read, check-read, exit-read, vector-read, begins, declares-next, asserts-next, asks-next, exits, declared-append, fresh-name}
+use Rattle.smtlib.proofs.CommandLaws.{declare-read, assert-read, check-read, exit-read, vector-read, begins, declares-next, asserts-next, asks-next, exits, declared-append, fresh-name}
 use Rattle.wording.specs.Words.{wordOf}
 use Rattle.wording.specs.Sixteen.{symbolText}
 use Rattle.wording.specs.Script.{claims}
-use Rattle.wording.proofs.Sexps.{sexpStep, sexp, declareSexp, declareChain, assertChain, chainOf, declares, asked, hexDigits, constant16, width16}
+use Rattle.forms.specs.Form.{Texts}
+use Rattle.forms.proofs.Sexps.{sexpBy, sexpStep, sexp, declareSexp, declareChain, assertChain, chainOf, declares, asked, hexDigits, constant16, width16}
 
 -- ---- the claims are as fine as the rule
 abbrev pub AllFine : ℕ → List (Tree Truth) → Type 0
@@ -50,15 +54,15 @@ AllFine v [] = Unit {0}
 AllFine v (t ∷ ts) = Fine v t × AllFine v ts
 
 pub claims-fine : (r : Rule) → WellFormed r → AllFine (length (r .variables)) (claims 0 (r .variables) (r .goal))
-unfolding Fine by-rows
+unfolding Throughout by-rows ofTree
 claims-fine r f = from 0 (r .variables) (omega arith) (f .variables)
   where
     from : (i : ℕ) (vs : List Variable) → i + length vs ≤ length (r .variables) → ((j : ℕ) → j < length vs → FineVariable (getD vs j noVariable)) → AllFine (length (r .variables)) (claims i vs (r .goal))
-    from i [] h e = (f .goal, tt)
+    from i [] h e = (throughout-fine _ _ (tt, fine-throughout _ (r .goal) (f .goal)), tt)
     from i (v ∷ vs) h e =
         let b : i < length (r .variables) = omega arith in
         let n = e 0 (omega arith) .ends in
-        (((n .low, b), (b, n .high)), from (suc i) vs (omega arith) (λ j l. e (suc j) (omega arith)))
+        (throughout-fine _ _ (tt, ((tt, ((n .low, tt), (b, tt))), (tt, ((b, tt), (n .high, tt))))), from (suc i) vs (omega arith) (λ j l. e (suc j) (omega arith)))
 
 -- ---- a term's sort
 
@@ -85,25 +89,25 @@ module _ (constant : ℤ → Atom) (name : ℕ → List ℕ) (w v : ℕ) (env : 
 
   -- each word's function takes and gives what the kind's row says
   kind-sorted : (k : Kind) (x : Found Sexp (row k .shape)) → Operands (row k .shape) x → Has env (sortFor w (row k .gives)) (sexpStep constant name k x)
-  unfolding wordOf function functions
-  kind-sorted Unknown x h = absurd h
-  kind-sorted True x h = record { known = _; is = value-constant env _ refl }
-  kind-sorted False x h = record { known = _; is = value-constant env _ refl }
-  kind-sorted Not x h = record { known = _; is = value-truths1 env _ refl x (h .is) }
-  kind-sorted And x h = record { known = _; is = value-left env _ _ _ refl (h .0 .is) (h .1 .is) }
-  kind-sorted Or x h = record { known = _; is = value-left env _ _ _ refl (h .0 .is) (h .1 .is) }
-  kind-sorted Implies x h = record { known = _; is = value-right env _ _ _ refl (h .0 .is) (h .1 .is) }
-  kind-sorted Iff x h = record { known = _; is = value-relation env _ _ _ refl bool _ _ (h .0 .is) (h .1 .is) }
-  kind-sorted Equal x h = record { known = _; is = value-relation env _ _ _ refl (bitVec w) _ _ (h .0 .is) (h .1 .is) }
-  kind-sorted Less x h = record { known = _; is = value-order env _ _ _ refl (h .0 .is) (h .1 .is) }
-  kind-sorted AtMost x h = record { known = _; is = value-order env _ _ _ refl (h .0 .is) (h .1 .is) }
-  kind-sorted Constant x h = constants x
-  kind-sorted VariableKind x h = symbols x h
-  kind-sorted Minus x h = record { known = _; is = value-vectors1 env _ refl x (h .is) }
-  kind-sorted Sum x h = record { known = _; is = value-vectors2 env _ _ _ refl (h .0 .is) (h .1 .is) }
-  kind-sorted Difference x h = record { known = _; is = value-vectors2 env _ _ _ refl (h .0 .is) (h .1 .is) }
-  kind-sorted Product x h = record { known = _; is = value-vectors2 env _ _ _ refl (h .0 .is) (h .1 .is) }
-  kind-sorted If x h = record { known = _; is = value-choice env _ _ _ refl _ (bitVec w) _ _ (h .0 .is) (h .1 .is) (h .2 .is) }
+  unfolding sameBytes function functions
+  kind-sorted Kind.Unknown x h = absurd h
+  kind-sorted Kind.True x h = record { known = _; is = value-constant env _ refl }
+  kind-sorted Kind.False x h = record { known = _; is = value-constant env _ refl }
+  kind-sorted Kind.Not x h = record { known = _; is = value-truths1 env _ refl x (h .is) }
+  kind-sorted Kind.And x h = record { known = _; is = value-left env _ _ _ refl (h .0 .is) (h .1 .is) }
+  kind-sorted Kind.Or x h = record { known = _; is = value-left env _ _ _ refl (h .0 .is) (h .1 .is) }
+  kind-sorted Kind.Implies x h = record { known = _; is = value-right env _ _ _ refl (h .0 .is) (h .1 .is) }
+  kind-sorted Kind.Iff x h = record { known = _; is = value-relation env _ _ _ refl bool _ _ (h .0 .is) (h .1 .is) }
+  kind-sorted Kind.Equal x h = record { known = _; is = value-relation env _ _ _ refl (bitVec w) _ _ (h .0 .is) (h .1 .is) }
+  kind-sorted Kind.Less x h = record { known = _; is = value-order env _ _ _ refl (h .0 .is) (h .1 .is) }
+  kind-sorted Kind.AtMost x h = record { known = _; is = value-order env _ _ _ refl (h .0 .is) (h .1 .is) }
+  kind-sorted Kind.Constant x h = constants x
+  kind-sorted Kind.Variable x h = symbols x h
+  kind-sorted Kind.Minus x h = record { known = _; is = value-vectors1 env _ refl x (h .is) }
+  kind-sorted Kind.Sum x h = record { known = _; is = value-vectors2 env _ _ _ _ refl (h .0 .is) (h .1 .is) }
+  kind-sorted Kind.Difference x h = record { known = _; is = value-vectors2 env _ _ _ _ refl (h .0 .is) (h .1 .is) }
+  kind-sorted Kind.Product x h = record { known = _; is = value-vectors2 env _ _ _ _ refl (h .0 .is) (h .1 .is) }
+  kind-sorted Kind.If x h = record { known = _; is = value-choice env _ _ _ refl _ (bitVec w) _ _ (h .0 .is) (h .1 .is) (h .2 .is) }
 
   abbrev SortedTree : (s : Sort) → Tree s → Type 0
   SortedTree s t = Fine v t → Has env (sortFor w s) (sexp constant name t)
@@ -121,20 +125,13 @@ module _ (constant : ℤ → Atom) (name : ℕ → List ℕ) (w v : ℕ) (env : 
   tree-sorted t f = by-rows SortedTree step t f
     where
       step : (k : Kind) → Known (row k .shape) → (x : Args (row k .shape)) → Each SortedTree (row k .shape) x → SortedTree (row k .gives) (make k x)
-      step k q x e f = rw (found-make k q x (sexpStep constant name)) (kind-sorted k _ (operands (row k .shape) x q e (rw (fine-make k q x v) at f)))
+      step k q x e f = rw (found-make k q x (sexpStep constant name)) (kind-sorted k _ (operands (row k .shape) x q e (fine-parts v k x f)))
 
 -- ---- the script's commands, for up to m variables
 
--- what the texts of constants, of variables and of the width must be
-pub record Texts (constant : ℤ → Atom) (name : ℕ → List ℕ) (width : List ℕ) (m : ℕ) : Type 0 where
-  pub some-bits : 1 ≤ numberOf 10 width
-  -- a constant is read in two's complement
-  pub constants : (env : Environment) (z : ℤ) → value env (atom (constant z)) ≡ bits (numberOf 10 width) (enc (numberOf 10 width) z)
-  -- a name is none of a theory's and none that is left to solvers, and no two are the same
-  pub free : (i : ℕ) → function (name i) ≡ none
-  pub theory : (i : ℕ) → theoryName (name i) ≡ false
-  pub solver : (i : ℕ) → solverName (name i) ≡ false
-  pub distinct : (i j : ℕ) → i < m → j < m → name i ≡ name j → i ≡ j
+-- a name names no function
+pub free : {constant : ℤ → Atom} {name : ℕ → List ℕ} {digits : List ℕ} {m : ℕ} → Texts constant name digits m → (i : ℕ) → function (name i) ≡ none
+free {name} texts i = no-function (name i) (texts .theory i)
 
 module _ (constant : ℤ → Atom) (name : ℕ → List ℕ) (width : List ℕ) (m : ℕ) (texts : Texts constant name width m) where
   abbrev size : ℕ
@@ -143,13 +140,13 @@ module _ (constant : ℤ → Atom) (name : ℕ → List ℕ) (width : List ℕ) 
   abbrev declaredAt : ℕ → Declaration
   declaredAt i = record { name = name i; sort = bitVec size }
 
-  apart : {i j : ℕ} → i < j → j < m → same (name i) (name j) ≡ false
-  apart {i} {j} l h = by (same (name i) (name j)) refl
+  apart : {i j : ℕ} → i < j → j < m → sameBytes (name i) (name j) ≡ false
+  apart {i} {j} l h = by (sameBytes (name i) (name j)) refl
     where
-      by : (b : Bool) → same (name i) (name j) ≡ b → b ≡ false
+      by : (b : Bool) → sameBytes (name i) (name j) ≡ b → b ≡ false
       by false e = refl
       by true e =
-          let d : i ≡ j = texts .distinct i j (omega arith) h (same-is (name i) (name j) e) in
+          let d : i ≡ j = texts .distinct i j (omega arith) h (same-decided (name i) (name j) .0 e) in
           absurd (omega arith)
 
   stands-from : (i : ℕ) (vs : List Variable) (s : List ℕ) (j k : ℕ) → k ≡ i + j → i + length vs ≤ m → length s ≡ length vs → j < length vs
@@ -158,7 +155,7 @@ module _ (constant : ℤ → Atom) (name : ℕ → List ℕ) (width : List ℕ) 
   stands-from i (v ∷ vs) [] j k e b l h = absurd (omega arith)
   stands-from i (v ∷ vs) (n ∷ s) zero k e b l h =
       let d : k ≡ i = omega arith in
-      stands-here (declaredAt i) (declares constant name size (suc i) vs) n s (name k) (rw d (same-self (name i)))
+      stands-here (declaredAt i) (declares constant name size (suc i) vs) n s (name k) (rw d (same-decided (name i) (name i) .1 refl))
   stands-from i (v ∷ vs) (n ∷ s) (suc j) k e b l h =
       stands-later (declaredAt i) (declares constant name size (suc i) vs) n s (name k) (apart (omega arith) (omega arith))
       ∙ stands-from (suc i) vs s j k (omega arith) (omega arith) (omega arith) (omega arith)
@@ -199,7 +196,7 @@ module _ (constant : ℤ → Atom) (name : ℕ → List ℕ) (width : List ℕ) 
     pub setting-sorted : (s : List ℕ) → length s ≡ length vs → {k : Sort} (t : Tree k) → Fine (length vs) t → Has (environment ds s) (sortFor size k) (sexp constant name t)
     setting-sorted s l t f =
         tree-sorted constant name size (length vs) (environment ds s) (λ z. record { known = _; is = texts .constants (environment ds s) z })
-        (λ i h. record { known = _; is = value-symbol (environment ds s) (name i) (texts .free i) ∙ symbol-stands vs few s l i h }) t f
+        (λ i h. record { known = _; is = value-symbol (environment ds s) (name i) (free texts i) ∙ symbol-stands vs few s l i h }) t f
 
     is-formula : (t : Tree Truth) → Fine (length vs) t → formula ds (sexp constant name t) ≡ true
     unfolding formula
@@ -215,9 +212,9 @@ module _ (constant : ℤ → Atom) (name : ℕ → List ℕ) (width : List ℕ) 
 
   -- ---- the whole
   pub chain-read : (r : Rule) → length (r .variables) ≤ m → WellFormed r → scriptIn (chainOf constant name width r) ≡ some (asked constant name size r)
-  unfolding logics
+  unfolding sameBytes setsLogic
   chain-read r few f =
-      begins _ _ (logic-read (ascii "QF_UFBV") refl)
+      begins _ _ refl
       ∙ all-declared [] 0 (r .variables) _ (λ j l h. refl) (omega arith)
       ∙ all-asserted (r .variables) few [] (claims 0 (r .variables) (r .goal)) _ (claims-fine r f)
       ∙ asks-next _ _ false _ _ check-read
@@ -228,27 +225,9 @@ module _ (constant : ℤ → Atom) (name : ℕ → List ℕ) where
   abbrev term : {s : Sort} → Tree s → Sexp
   term t = sexp constant name t
 
-  -- a tree's term has the tree's operators
-  pub operators : (p q : Tree Truth) (a b : Tree Integer) (z : ℤ) (i : ℕ)
-      → (term tru ≡ atom (symbol (ascii "true")))
-      × (term fls ≡ atom (symbol (ascii "false")))
-      × (term (neg p) ≡ call1 (ascii "not") (term p))
-      × (term (conj p q) ≡ call2 (ascii "and") (term p) (term q))
-      × (term (disj p q) ≡ call2 (ascii "or") (term p) (term q))
-      × (term (implies p q) ≡ call2 (ascii "=>") (term p) (term q))
-      × (term (iff p q) ≡ call2 (ascii "=") (term p) (term q))
-      × (term (equal a b) ≡ call2 (ascii "=") (term a) (term b))
-      × (term (less a b) ≡ call2 (ascii "bvslt") (term a) (term b))
-      × (term (atMost a b) ≡ call2 (ascii "bvsle") (term a) (term b))
-      × (term (const z) ≡ atom (constant z))
-      × (term (var i) ≡ atom (symbol (name i)))
-      × (term (minus a) ≡ call1 (ascii "bvneg") (term a))
-      × (term (sum a b) ≡ call2 (ascii "bvadd") (term a) (term b))
-      × (term (difference a b) ≡ call2 (ascii "bvsub") (term a) (term b))
-      × (term (product a b) ≡ call2 (ascii "bvmul") (term a) (term b))
-      × (term (ite p a b) ≡ call3 (ascii "ite") (term p) (term a) (term b))
-  unfolding ofTree by-rows wordOf
-  operators p q a b z i = (refl, refl, refl, refl, refl, refl, refl, refl, refl, refl, refl, refl, refl, refl, refl, refl, refl)
+  -- a tree's term is made of its kind's word and the operands' terms
+  pub operators : (k : Kind) → Known (row k .shape) → (x : Args (row k .shape)) → term (make k x) ≡ sexpBy constant name (row k .shape) (row k .word) (foundMade (sexpStep constant name) (row k .shape) x)
+  operators k q x = found-make k q x (sexpStep constant name)
 
   -- (and (bvsle MIN NAME) (bvsle NAME MAX))
   abbrev pub rangeSexp : ℕ → Range → Sexp
@@ -261,7 +240,7 @@ module _ (constant : ℤ → Atom) (name : ℕ → List ℕ) where
 
   -- a range for each variable, and then the negated goal
   pub asserts-are : (w : ℕ) (r : Rule) → asked constant name w r .asserts ≡ ranges 0 (r .variables) ++ (call1 (ascii "not") (term (r .goal)) ∷ [])
-  unfolding ofTree by-rows wordOf
+  unfolding ofTree
   asserts-are w r = from 0 (r .variables)
     where
       from : (i : ℕ) (vs : List Variable) → map (λ (t : Tree Truth). term t) (claims i vs (r .goal)) ≡ ranges i vs ++ (call1 (ascii "not") (term (r .goal)) ∷ [])
@@ -296,11 +275,10 @@ pub symbol-distinct : (i j : ℕ) → i < 100 → j < 100 → symbolText i ≡ s
 symbol-distinct i j h k e = sym (symbol-number i h) ∙ ap numberIn e ∙ symbol-number j k
 
 pub texts16 : Texts constant16 symbolText width16 100
-unfolding symbolText function functions theoryName otherNames
+unfolding sameBytes symbolText functions theoryName otherNames
 texts16 = record {
   some-bits = lit≤ tt;
   constants = constant16-value;
-  free = λ i. refl;
   theory = λ i. refl;
   solver = λ i. refl;
   distinct = symbol-distinct;

@@ -15,10 +15,11 @@ use Rattle.meaning.specs.Cases.{Failing}
 use Rattle.smtlib.specs.Tokens.{Atom}
 use Rattle.smtlib.specs.Terms.{numberOf}
 use Rattle.smtlib.specs.Satisfaction.{Meets}
-use Rattle.wording.proofs.Sexps.{asked}
-use Rattle.wording.proofs.Read.{Texts}
-use Rattle.wording.proofs.MeansSettings.{Integers, encs-inj, fits-exactly, holding}
-use Rattle.wording.proofs.MeansClaims.{WidthHolds, claims-exactly}
+use Rattle.forms.specs.Form.{Texts}
+use Rattle.forms.specs.Width.{WidthHolds}
+use Rattle.forms.proofs.Sexps.{asked}
+use Rattle.forms.proofs.MeansSettings.{Integers, encs-inj, fits-exactly, holding}
+use Rattle.forms.proofs.MeansClaims.{claims-exactly}
 
 in-within : {w : ℕ} {d : Range} {x : ℤ} → Within w (d .low) → Within w (d .high) → In d x → Within w x
 in-within f g m = omega zed
@@ -41,7 +42,7 @@ module _ {constant : ℤ → Atom} {name : ℕ → List ℕ} {width : List ℕ} 
   pub integers-meet : {c : List ℤ} → Integers w (length (r .variables)) c → Meets (asked constant name w r) (map (enc w) c) ↔ Failing r c
   integers-meet {c} k =
       let claims = claims-exactly (texts .some-bits) h k (holding texts (r .variables) few c (k .all)) in
-      (λ m. claims .0 (m .holds), λ f. record { fits = fits-exactly constant name w (texts .some-bits) (r .variables) _ .1 (c, k, refl); holds = claims .1 f })
+      (λ m. claims .0 (m .holds), λ f. record { assigns = fits-exactly constant name w (texts .some-bits) (r .variables) _ .1 (c, k, refl); holds = claims .1 f })
 
   -- a setting meets the script exactly where it is a failing case's
   pub meets-exactly : (s : List ℕ) → Meets (asked constant name w r) s ↔ ((c : List ℤ) × Failing r c × (map (enc w) c ≡ s))
@@ -49,7 +50,7 @@ module _ {constant : ℤ → Atom} {name : ℕ → List ℕ} {width : List ℕ} 
     where
       to : Meets (asked constant name w r) s → (c : List ℤ) × Failing r c × (map (enc w) c ≡ s)
       to m =
-          let p = fits-exactly constant name w (texts .some-bits) (r .variables) s .0 (m .fits) in
+          let p = fits-exactly constant name w (texts .some-bits) (r .variables) s .0 (m .assigns) in
           (p .0, integers-meet (p .1) .0 (rw (p .2) m), p .2)
 
       from : (c : List ℤ) × Failing r c × (map (enc w) c ≡ s) → Meets (asked constant name w r) s

@@ -1,32 +1,24 @@
--- A form of the script at every width: a constant is `#b` and as many binary digits as the width says. Assumes nothing.
+-- Constants in binary are a form of the script, at every width. Assumes nothing.
 use Prim.Native.Nat.{ℕ, zero, suc, _+_, _*_, _/_, _%_, _^_, _≤_, _<_}
 use mathlib.Core.Path.{_≡_, refl, ap, ap₂, _∙_}
-use mathlib.Core.List.{List, [], _∷_, _++_, map}
+use mathlib.Core.List.{List, [], _∷_, _++_}
 use native.Mathlib.Numerals.{unary-clauses}
 use native.Mathlib.Omega.{arith}
 use lib.IntN.{ℤ}
 use lib.ListN.{length, length-append}
-use Rattle.lists.specs.Ascii.{ascii}
 use Rattle.numbers.specs.Two.{enc}
 use Rattle.numbers.proofs.Coding.{enc-lt}
 use Rattle.smtlib.specs.Tokens.{binary, numeral}
 use Rattle.smtlib.specs.Values.{bits}
 use Rattle.smtlib.specs.Terms.{numberFrom, numberOf}
-use Rattle.smtlib.proofs.Printing.{digitByte, Spelled}
+use Rattle.smtlib.specs.Spelling.{Spelled}
 use Rattle.smtlib.proofs.Spelling.{Digits, spelled-binary}
 use Rattle.smtlib.proofs.TermLaws.{value-binary}
 use Rattle.wording.specs.Sixteen.{symbolText}
-use Rattle.wording.proofs.Spelt.{symbol-spelled}
-use Rattle.wording.proofs.Read.{texts16}
-use Rattle.wording.proofs.Forms.{Form}
-
--- the last w binary digits of x
-abbrev pub bitsOf : ℕ → ℕ → List ℕ
-bitsOf zero x = []
-bitsOf (suc w) x = bitsOf w (x / 2) ++ (x % 2 ∷ [])
-
-abbrev pub bitsLiteral : ℕ → ℤ → List ℕ
-bitsLiteral w z = ascii "#b" ++ map digitByte (bitsOf w (enc w z))
+use Rattle.forms.specs.Form.{Form}
+use Rattle.forms.specs.Binary.{bitsOf, bitsLiteral}
+use Rattle.forms.proofs.Spelt.{symbol-spelled}
+use Rattle.forms.proofs.Read.{texts16}
 
 bits-length : (w x : ℕ) → length (bitsOf w x) ≡ w
 bits-length zero x = refl
@@ -70,7 +62,6 @@ form-bits digits numeral-spelled some-bits =
       texts = record {
         some-bits = some-bits;
         constants = λ env z. value-binary env (bitsOf w (enc w z)) ∙ ap₂ bits (bits-length w (enc w z)) (bits-number w (enc w z) (enc-lt w z));
-        free = texts16 .free;
         theory = texts16 .theory;
         solver = texts16 .solver;
         distinct = texts16 .distinct;

@@ -1,11 +1,12 @@
 -- A tree is known from its text, and a rule but for its names from its script. Assumes nothing.
 use Prim.Native.Nat.{ℕ, zero, suc, _≤_}
-use mathlib.Core.Path.{_≡_, refl, sym, ap, ap₂, _∙_}
+use mathlib.Core.Path.{_≡_, refl, sym, ap, ap₂, subst, _∙_}
 use mathlib.Core.Bool.{Bool, true, false, _&&_}
 use mathlib.Core.List.{List, [], _∷_, map}
 use mathlib.Core.Option.{Option, none, some}
 use native.Mathlib.Omega.{arith}
 use native.Mathlib.Nat.{lt-of-lt-of-le}
+use lib.Dec.{eqb}
 use lib.IntN.{ℤ, pos}
 use lib.ListN.{getD}
 use Rattle.numbers.specs.Two.{enc, dec}
@@ -15,29 +16,31 @@ use Rattle.meaning.specs.declared.Sort.the-variants.{Truth, Integer}
 use Rattle.meaning.specs.Tree.{Tree, fls, iff, equal}
 use Rattle.meaning.specs.Rule.{Variable, Rule, noVariable}
 use Rattle.kinds.specs.declared.Kind.{Kind}
-use Rattle.kinds.specs.declared.Kind.the-variants.{Unknown, True, False, Not, And, Or, Implies, Iff, Equal, Less, AtMost, Constant, Variable as VariableKind, Minus, Sum, Difference, Product, If}
 use Rattle.kinds.specs.declared.Shape.{Shape}
 use Rattle.kinds.specs.declared.Shape.the-variants.{Wrong, Bare, Valued, Named, One, Two, Three}
-use Rattle.kinds.specs.Kinds.{row, kinds}
-use Rattle.kinds.specs.Rows.{Args, make, Known, Each, by-rows}
+use Rattle.kinds.specs.Kinds.{Args, row, kinds}
+use Rattle.kinds.specs.Rows.{make, Known, SomeTree}
+use Rattle.kinds.proofs.KindLaws.{passes, same-byte, valued-is, named-is}
+use Rattle.kinds.proofs.RowLaws.{Each, by-rows}
 use Rattle.layout.specs.WellFormed.{Fine, WellFormed}
-use Rattle.layout.specs.Goal.{SomeTree, ofSort}
-use Rattle.layout.proofs.Made.{FineMade, foundMade, fine-make, found-make}
+use Rattle.layout.specs.Goal.{ofSort}
+use Rattle.layout.proofs.Made.{FineMade, foundMade, fine-parts, found-make}
 use Rattle.layout.proofs.Agree.{Alike}
-use Rattle.smtlib.specs.Tokens.{Atom, symbol, reserved, numeral, hexadecimal, binary, keyword, same}
+use Rattle.lists.specs.Names.{sameBytes}
+use Rattle.smtlib.specs.Tokens.{Atom, symbol, reserved, numeral, hexadecimal, binary, keyword}
 use Rattle.smtlib.specs.Sexps.{Sexp, atom, nil, cons, symbolIn, sexpsOf}
 use Rattle.smtlib.specs.Terms.{numberOf}
 use Rattle.smtlib.specs.Scripts.{Script}
 use Rattle.smtlib.specs.Satisfaction.{scriptOf}
 use Rattle.smtlib.proofs.Printing.{print-sexp}
 use Rattle.wording.specs.Words.{wordOf}
 use Rattle.wording.specs.Text.{text}
 use Rattle.wording.specs.Sixteen.{literal, symbolText}
 use Rattle.wording.specs.Script.{claims, script}
-use Rattle.wording.proofs.Sexps.{sexpBy, sexpStep, sexp, hexDigits, constant16, asked16}
-use Rattle.wording.proofs.Spelt.{text16-printed, printable16}
-use Rattle.wording.proofs.Read.{AllFine, claims-fine, hex-number, numberIn, symbol-number}
-use Rattle.wording.proofs.Forms.{script-read}
+use Rattle.forms.proofs.Sexps.{sexpBy, sexpStep, sexp, hexDigits, constant16, asked16}
+use Rattle.forms.proofs.Spelt.{text16-printed, printable16}
+use Rattle.forms.proofs.Read.{AllFine, claims-fine, hex-number, numberIn, symbol-number}
+use Rattle.forms.proofs.Forms.{script-read}
 
 -- ---- the tree that a term spells
 
@@ -61,9 +64,9 @@ sameSort (some Integer) (some Truth) = false
 sameSort (some Integer) (some Integer) = true
 
 -- the first of these kinds with this word and this first operand; a variable where there is none
-abbrev kindIn : List Kind → List ℕ → Option Sort → Kind
-kindIn [] w o = VariableKind
-kindIn (k ∷ ks) w o = elim (same (wordOf k) w && sameSort (firstOf (row k .shape)) o) [ true ↦ k | false ↦ kindIn ks w o ]
+unfoldable kindIn : List Kind → List ℕ → Option Sort → Kind
+kindIn [] w o = Kind.Variable
+kindIn (k ∷ ks) w o = elim (sameBytes (wordOf k) w && sameSort (firstOf (row k .shape)) o) [ true ↦ k | false ↦ kindIn ks w o ]
 
 -- what a term may be read from: an integer, a variable's number, and operands
 abbrev Parts : Type 0
@@ -96,7 +99,7 @@ abbrev leaf : Atom → SomeTree
 leaf (symbol w) = node (some w) []
 leaf (reserved w) = (Truth, fls)
 leaf (numeral ds) = (Truth, fls)
-leaf (hexadecimal ds) = built Constant (dec 16 (numberOf 16 ds), 0, [])
+leaf (hexadecimal ds) = built Kind.Constant (dec 16 (numberOf 16 ds), 0, [])
 leaf (binary ds) = (Truth, fls)
 leaf (keyword w) = (Truth, fls)
 
@@ -115,35 +118,44 @@ abbrev mutual
 
 -- the kind that is read, by the shape
 abbrev kindRead : (h : Shape) → List ℕ → Args h → Kind
-kindRead Wrong w x = Unknown
+kindRead Wrong w x = Kind.Unknown
 kindRead Bare w x = kindIn kinds w none
-kindRead Valued w x = Constant
+kindRead Valued w x = Kind.Constant
 kindRead Named w x = kindIn kinds (symbolText x) none
 kindRead (One s) w x = kindIn kinds w (some s)
 kindRead (Two s t) w x = kindIn kinds w (some s)
 kindRead (Three s t u) w x = kindIn kinds w (some s)
 
 -- no two kinds have the same word and the same first operand
-kind-read : (k : Kind) (x : Args (row k .shape)) → kindRead (row k .shape) (wordOf k) x ≡ k
-unfolding wordOf symbolText
-kind-read Unknown x = refl
-kind-read True x = refl
-kind-read False x = refl
-kind-read Not x = refl
-kind-read And x = refl
-kind-read Or x = refl
-kind-read Implies x = refl
-kind-read Iff x = refl
-kind-read Equal x = refl
-kind-read Less x = refl
-kind-read AtMost x = refl
-kind-read Constant x = refl
-kind-read VariableKind x = refl
-kind-read Minus x = refl
-kind-read Sum x = refl
-kind-read Difference x = refl
-kind-read Product x = refl
-kind-read If x = refl
+abbrev readRight : Shape → Kind → Bool
+readRight Wrong k = true
+readRight Bare k = eqb (row (kindIn kinds (wordOf k) none) .byte) (row k .byte)
+readRight Valued k = true
+readRight Named k = true
+readRight (One s) k = eqb (row (kindIn kinds (wordOf k) (some s)) .byte) (row k .byte)
+readRight (Two s t) k = eqb (row (kindIn kinds (wordOf k) (some s)) .byte) (row k .byte)
+readRight (Three s t u) k = eqb (row (kindIn kinds (wordOf k) (some s)) .byte) (row k .byte)
+
+read-right : (k : Kind) → readRight (row k .shape) k ≡ true
+unfolding kindIn sameBytes
+read-right = passes (λ k. readRight (row k .shape) k) refl
+
+-- of the shape h, the kind k is read; and so of its own
+abbrev ReadAs : Kind → Shape → Type 0
+ReadAs k h = (x : Args h) → kindRead h (wordOf k) x ≡ k
+
+reads : (k : Kind) (h : Shape) → Known h → row k .shape ≡ h → readRight h k ≡ true → ReadAs k (row k .shape)
+unfolding kindIn sameBytes symbolText
+reads k Wrong q e r = absurd q
+reads k Bare q e r = subst (ReadAs k) (sym e) (λ x. same-byte r)
+reads k Valued q e r = subst (λ (k : Kind). ReadAs k (row k .shape)) (sym (valued-is k e)) (λ x. refl)
+reads k Named q e r = subst (λ (k : Kind). ReadAs k (row k .shape)) (sym (named-is k e)) (λ x. refl)
+reads k (One s) q e r = subst (ReadAs k) (sym e) (λ x. same-byte r)
+reads k (Two s t) q e r = subst (ReadAs k) (sym e) (λ x. same-byte r)
+reads k (Three s t u) q e r = subst (ReadAs k) (sym e) (λ x. same-byte r)
+
+kind-read : (k : Kind) → Known (row k .shape) → (x : Args (row k .shape)) → kindRead (row k .shape) (wordOf k) x ≡ k
+kind-read k q x = reads k (row k .shape) q refl (read-right k) x
 
 self : (s : Sort) (t : Tree s) → ofSort s (s, t) ≡ t
 self Truth t = refl
@@ -174,10 +186,10 @@ module _ (v : ℕ) (few : v ≤ 100) where
     where
       step : (k : Kind) → Known (row k .shape) → (x : Args (row k .shape)) → Each Spells (row k .shape) x → Spells (row k .gives) (make k x)
       step k q x e f =
-          let r = shape-read (row k .shape) (wordOf k) x q e (rw (fine-make k q x v) at f) in
+          let r = shape-read (row k .shape) (wordOf k) x q e (fine-parts v k x f) in
           ap treeIn (found-make k q x (sexpStep constant16 symbolText))
           ∙ r .1
-          ∙ ap (λ (l : Kind). built l (r .0)) (kind-read k x)
+          ∙ ap (λ (l : Kind). built l (r .0)) (kind-read k q x)
           ∙ ap (λ (y : Args (row k .shape)). (row k .gives, make k y)) (r .2)
 
 -- ---- what is told apart

@@ -18,26 +18,21 @@ use Rattle.numbers.proofs.OrderTests.{decides-leZ}
 use Rattle.meaning.specs.declared.Sort.the-variants.{Truth, Integer}
 use Rattle.meaning.specs.Tree.{Tree, neg, const, var}
 use Rattle.meaning.specs.Value.{value as meant}
-use Rattle.meaning.specs.Rule.{Variable, Rule, noVariable, domainOf, Case, valueIn}
+use Rattle.meaning.specs.Rule.{Variable, Rule, noVariable, Case, valueIn}
 use Rattle.meaning.specs.Cases.{Failing}
 use Rattle.meaning.specs.Cases.{holds as Cases·holds}
-use Rattle.kinds.specs.Rows.{by-rows, Throughout}
+use Rattle.kinds.proofs.RowLaws.{by-rows}
+use Rattle.kinds.proofs.ClaimLaws.{Throughout}
 use Rattle.smtlib.specs.Tokens.{Atom}
 use Rattle.smtlib.specs.Values.{truth}
 use Rattle.smtlib.specs.Terms.{Environment, value}
 use Rattle.smtlib.specs.Satisfaction.{isTrue, allTrue}
 use Rattle.wording.specs.Script.{inDomain, claims}
-use Rattle.wording.proofs.Sexps.{sexp, asked}
-use Rattle.wording.proofs.MeansTrees.{NoWrap, Below}
-use Rattle.wording.proofs.Means.{Holding, means}
-use Rattle.wording.proofs.MeansSettings.{Integers}
-
--- a rule that w bits hold: its domains' ends and, in every case, each integer in its goal, which names no variables but the rule's
-pub record WidthHolds (w : ℕ) (r : Rule) : Type 0 where
-  pub low : (i : ℕ) → i < length (r .variables) → Within w (domainOf r i .low)
-  pub high : (i : ℕ) → i < length (r .variables) → Within w (domainOf r i .high)
-  pub variables : Throughout (Below (length (r .variables))) (r .goal)
-  pub values : (c : List ℤ) → Case r c → Throughout (NoWrap w (valueIn c)) (r .goal)
+use Rattle.forms.specs.Width.{WidthHolds}
+use Rattle.forms.proofs.Sexps.{sexp, asked}
+use Rattle.forms.proofs.MeansTrees.{NoWrap, Below, all-below, all-within}
+use Rattle.forms.proofs.Means.{Holding, means}
+use Rattle.forms.proofs.MeansSettings.{Integers}
 
 const-below : {v : ℕ} (z : ℤ) → Below v Integer (const z)
 const-below z i e = absurd (let q : _≡_ {A = ℕ} 0 1 = cc in omega arith)
@@ -100,7 +95,7 @@ claims-exactly {w} {constant} {name} {r} {c} {env} one m k h = (to, from)
     all = claims-true one h (λ n l. k .each n (omega (arith, k .all))) (r .goal) 0 (r .variables) (omega arith) (m .low) (m .high)
 
     goal-is : Case r c → holds one h (neg (r .goal)) ≡ not (meant (valueIn c) (r .goal))
-    goal-is a = goal-claim one h (r .goal) (m .values c a) (m .variables)
+    goal-is a = goal-claim one h (r .goal) (all-within m a) (all-below m)
 
     to : allTrue env (asked constant name w r .asserts) ≡ true → Failing r c
     to e =

@@ -6,18 +6,21 @@ use mathlib.Core.List.{List, map}
 use Prim.Native.Nat.{ℕ, _≤_}
 use lib.ListN.{length}
 use lib.IntN.{ℤ}
-use Rattle.numbers.specs.Two.{enc}
+use Rattle.numbers.specs.Two.{enc, Within}
 use Rattle.numbers.proofs.Bytes16.{narrow-within}
+use Rattle.meaning.specs.declared.Sort.the-variants.{Integer}
+use Rattle.meaning.specs.Tree.{Tree}
+use Rattle.meaning.specs.Value.{value}
 use Rattle.meaning.specs.Rule.{Rule, Case, valueIn}
 use Rattle.meaning.specs.Cases.{Failing}
-use Rattle.kinds.specs.Rows.{Throughout}
+use Rattle.kinds.specs.Rows.{PartOf}
 use Rattle.layout.specs.WellFormed.{WellFormed}
 use Rattle.smtlib.specs.Terms.{numberOf}
 use Rattle.smtlib.specs.Satisfaction.{Satisfies}
-use Rattle.wording.proofs.Forms.{Form, scriptBy, form-satisfied}
-use Rattle.wording.proofs.MeansTrees.{NoWrap, fine-below}
-use Rattle.wording.proofs.MeansClaims.{WidthHolds}
-use Rattle.wording.proofs.MeansMatch.{meets-exactly}
+use Rattle.forms.specs.Form.{Form, scriptBy}
+use Rattle.forms.specs.Width.{WidthHolds}
+use Rattle.forms.proofs.Forms.{form-satisfied}
+use Rattle.forms.proofs.MeansMatch.{meets-exactly}
 
 -- a setting satisfies the script exactly where it is a failing case's
 pub form-means : {literal : ℤ → List ℕ} {name : ℕ → List ℕ} {digits : List ℕ} {m : ℕ} → Form literal name digits m → (r : Rule) → length (r .variables) ≤ m → WellFormed r → WidthHolds (numberOf 10 digits) r
@@ -25,10 +28,10 @@ pub form-means : {literal : ℤ → List ℕ} {name : ℕ → List ℕ} {digits 
 form-means form r few well h t = Iff·trans (form-satisfied form r few well t) (meets-exactly (form .texts) few h t)
 
 -- 16 bits hold a rule that has a sheet, if in its cases no operator wraps
-pub held16 : {r : Rule} → WellFormed r → ((c : List ℤ) → Case r c → Throughout (NoWrap 16 (valueIn c)) (r .goal)) → WidthHolds 16 r
-held16 {r} well values = record {
+pub held16 : {r : Rule} → WellFormed r → ((c : List ℤ) → Case r c → (t : Tree Integer) → PartOf t (r .goal) → Within 16 (value (valueIn c) t)) → WidthHolds 16 r
+held16 well values = record {
   low = λ i l. narrow-within (well .variables i l .ends .low);
   high = λ i l. narrow-within (well .variables i l .ends .high);
-  variables = fine-below (length (r .variables)) (r .goal) (well .goal);
+  variables = well .goal .variables;
   values = values;
 }

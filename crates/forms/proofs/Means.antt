@@ -8,16 +8,17 @@ use lib.IntN.{ℤ, negℤ, _+ℤ_, _-ℤ_, _*ℤ_, ℤ-discrete}
 use lib.Signed.{ltZ, leZ}
 use borrow.Author.Tests.{eq-eqb, ne-eqb}
 use Rattle.lists.specs.Ascii.{ascii}
+use Rattle.lists.specs.Names.{sameBytes}
 use Rattle.numbers.specs.Two.{enc, Within}
 use Rattle.numbers.proofs.Coding.{enc-lt, enc-inj}
 use Rattle.numbers.proofs.Modular.{enc-neg, enc-add, enc-sub, enc-mul, less-is, most-is}
 use Rattle.meaning.specs.declared.Sort.{Sort}
 use Rattle.meaning.specs.declared.Sort.the-variants.{Truth, Integer}
-use Rattle.meaning.specs.Tree.{Tree, tru, fls, neg, conj, disj, implies, iff, equal, less, atMost, const, var, minus, sum, difference, product, ite}
+use Rattle.meaning.specs.Tree.{Tree}
 use Rattle.meaning.specs.Value.{Of, implied, equivalent, equals, chosen, value as meant}
 use Rattle.meaning.proofs.Equals.{equals-same, equals-false}
-use Rattle.kinds.specs.Rows.{by-rows, Throughout}
-use Rattle.kinds.proofs.ClaimLaws.{own}
+use Rattle.kinds.proofs.RowLaws.{by-rows}
+use Rattle.kinds.proofs.ClaimLaws.{Throughout, own}
 use Rattle.layout.specs.Fold.{ofTree}
 use Rattle.smtlib.specs.Tokens.{Atom, symbol}
 use Rattle.smtlib.specs.Sexps.{atom}
@@ -27,9 +28,9 @@ use Rattle.smtlib.specs.Theory.{functions, function}
 use Rattle.smtlib.specs.Terms.{Environment, value}
 use Rattle.smtlib.proofs.TermLaws.{value-constant, value-truths1, value-vectors1, value-left, value-right, value-relation, value-vectors2, value-order, value-choice}
 use Rattle.smtlib.proofs.OrderLaws.{bvslt-is, bvsle-is}
 use Rattle.wording.specs.Words.{wordOf}
-use Rattle.wording.proofs.Sexps.{sexp}
-use Rattle.wording.proofs.MeansTrees.{NoWrap, Below}
+use Rattle.forms.proofs.MeansTrees.{NoWrap, Below}
+use Rattle.forms.proofs.Sexps.{sexp}
 
 -- ---- Core's functions are those of the meaning
 implies-is : (a b : Bool) → not a || b ≡ implied a b
@@ -93,34 +94,34 @@ coded w Integer z = bits w (enc w z)
 
 module _ {w v : ℕ} {constant : ℤ → Atom} {name : ℕ → List ℕ} {ρ : ℕ → ℤ} {env : Environment} (one : 1 ≤ w) (h : Holding w v constant name ρ env) where
   pub means : {s : Sort} (t : Tree s) → Throughout (NoWrap w ρ) t → Throughout (Below v) t → value env (sexp constant name t) ≡ coded w s (meant ρ t)
-  unfolding ofTree by-rows Throughout wordOf meant function functions
-  means tru k l = value-constant env (ascii "true") refl
-  means fls k l = value-constant env (ascii "false") refl
-  means (neg a) k l = value-truths1 env (ascii "not") refl _ (means a (k .1) (l .1))
-  means (conj a b) k l = value-left env (ascii "and") _ _ refl (means a (k .1 .0) (l .1 .0)) (means b (k .1 .1) (l .1 .1))
-  means (disj a b) k l = value-left env (ascii "or") _ _ refl (means a (k .1 .0) (l .1 .0)) (means b (k .1 .1) (l .1 .1))
-  means (implies a b) k l =
+  unfolding ofTree by-rows Throughout meant sameBytes function functions
+  means Tree.tru k l = value-constant env (ascii "true") refl
+  means Tree.fls k l = value-constant env (ascii "false") refl
+  means (Tree.neg a) k l = value-truths1 env (ascii "not") refl _ (means a (k .1) (l .1))
+  means (Tree.conj a b) k l = value-left env (ascii "and") _ _ refl (means a (k .1 .0) (l .1 .0)) (means b (k .1 .1) (l .1 .1))
+  means (Tree.disj a b) k l = value-left env (ascii "or") _ _ refl (means a (k .1 .0) (l .1 .0)) (means b (k .1 .1) (l .1 .1))
+  means (Tree.implies a b) k l =
       value-right env (ascii "=>") _ _ refl (means a (k .1 .0) (l .1 .0)) (means b (k .1 .1) (l .1 .1)) ∙ ap truth (implies-is (meant ρ a) (meant ρ b))
-  means (iff a b) k l =
+  means (Tree.iff a b) k l =
       value-relation env (ascii "=") _ _ refl bool _ _ (means a (k .1 .0) (l .1 .0)) (means b (k .1 .1) (l .1 .1)) ∙ ap truth (iff-is (meant ρ a) (meant ρ b))
-  means (equal a b) k l =
+  means (Tree.equal a b) k l =
       value-relation env (ascii "=") _ _ refl (bitVec w) _ _ (means a (k .1 .0) (l .1 .0)) (means b (k .1 .1) (l .1 .1))
       ∙ ap truth (equal-is one (own (NoWrap w ρ) a (k .1 .0)) (own (NoWrap w ρ) b (k .1 .1)))
-  means (less a b) k l =
+  means (Tree.less a b) k l =
       value-order env (ascii "bvslt") _ _ refl (means a (k .1 .0) (l .1 .0)) (means b (k .1 .1) (l .1 .1))
       ∙ ap truth (slt-is one (own (NoWrap w ρ) a (k .1 .0)) (own (NoWrap w ρ) b (k .1 .1)))
-  means (atMost a b) k l =
+  means (Tree.atMost a b) k l =
       value-order env (ascii "bvsle") _ _ refl (means a (k .1 .0) (l .1 .0)) (means b (k .1 .1) (l .1 .1))
       ∙ ap truth (sle-is one (own (NoWrap w ρ) a (k .1 .0)) (own (NoWrap w ρ) b (k .1 .1)))
-  means (const z) k l = h .constants z (k .0)
-  means (var i) k l = h .symbols i (l .0 i refl)
-  means (minus a) k l = value-vectors1 env (ascii "bvneg") refl _ (means a (k .1) (l .1)) ∙ ap (bits w) (neg-is w (meant ρ a))
-  means (sum a b) k l =
-      value-vectors2 env (ascii "bvadd") _ _ refl (means a (k .1 .0) (l .1 .0)) (means b (k .1 .1) (l .1 .1)) ∙ ap (bits w) (add-is w (meant ρ a) (meant ρ b))
-  means (difference a b) k l =
-      value-vectors2 env (ascii "bvsub") _ _ refl (means a (k .1 .0) (l .1 .0)) (means b (k .1 .1) (l .1 .1)) ∙ ap (bits w) (sub-is w (meant ρ a) (meant ρ b))
-  means (product a b) k l =
-      value-vectors2 env (ascii "bvmul") _ _ refl (means a (k .1 .0) (l .1 .0)) (means b (k .1 .1) (l .1 .1)) ∙ ap (bits w) (mul-is w (meant ρ a) (meant ρ b))
-  means (ite c a b) k l =
+  means (Tree.const z) k l = h .constants z (k .0)
+  means (Tree.var i) k l = h .symbols i (l .0 i refl)
+  means (Tree.minus a) k l = value-vectors1 env (ascii "bvneg") refl _ (means a (k .1) (l .1)) ∙ ap (bits w) (neg-is w (meant ρ a))
+  means (Tree.sum a b) k l =
+      value-vectors2 env (ascii "bvadd") _ _ _ refl (means a (k .1 .0) (l .1 .0)) (means b (k .1 .1) (l .1 .1)) ∙ ap (bits w) (add-is w (meant ρ a) (meant ρ b))
+  means (Tree.difference a b) k l =
+      value-vectors2 env (ascii "bvsub") _ _ _ refl (means a (k .1 .0) (l .1 .0)) (means b (k .1 .1) (l .1 .1)) ∙ ap (bits w) (sub-is w (meant ρ a) (meant ρ b))
+  means (Tree.product a b) k l =
+      value-vectors2 env (ascii "bvmul") _ _ _ refl (means a (k .1 .0) (l .1 .0)) (means b (k .1 .1) (l .1 .1)) ∙ ap (bits w) (mul-is w (meant ρ a) (meant ρ b))
+  means (Tree.ite c a b) k l =
       value-choice env (ascii "ite") _ _ refl _ (bitVec w) _ _ (means c (k .1 .0) (l .1 .0)) (means a (k .1 .1) (l .1 .1)) (means b (k .1 .2) (l .1 .2))
       ∙ ap (bits w) (ite-is w (meant ρ c) (meant ρ a) (meant ρ b))

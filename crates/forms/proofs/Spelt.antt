@@ -1,38 +1,41 @@
 -- The script is the printed text of its s-expressions: of a tree, of each line, and of the whole. Assumes nothing.
 use Prim.Native.Nat.{ℕ, suc, _+_, _/_, _%_, _<_}
 use mathlib.Core.Path.{_≡_, refl, sym, ap, _∙_}
-use mathlib.Core.Bool.{Bool, true, false}
+use mathlib.Core.Bool.{Bool, true, false, not, _&&_}
 use mathlib.Core.List.{List, [], _∷_, _++_, map, append-assoc}
 use native.Mathlib.Omega.{arith}
 use lib.Dec.{ltb, lit<, lit≤}
 use lib.IntN.{ℤ}
-use borrow.Author.Tests.{ltb-true}
+use borrow.Author.Tests.{ltb-true, not-true}
 use Rattle.lists.specs.Ascii.{ascii}
 use Rattle.lists.specs.Joined.{joined}
+use Rattle.lists.specs.Names.{sameBytes}
 use Rattle.lists.specs.Places.{allBelow}
-use Rattle.lists.proofs.TestLaws.{and, all-true}
+use Rattle.lists.proofs.TestLaws.{both, and, all-true}
 use Rattle.numbers.specs.Two.{enc}
 use Rattle.meaning.specs.declared.Sort.{Sort}
 use Rattle.meaning.specs.declared.Sort.the-variants.{Truth}
 use Rattle.meaning.specs.Tree.{Tree}
 use Rattle.meaning.specs.Rule.{Variable, Rule}
 use Rattle.kinds.specs.declared.Kind.{Kind}
-use Rattle.kinds.specs.declared.Kind.the-variants.{Unknown, True, False, Not, And, Or, Implies, Iff, Equal, Less, AtMost, Constant, Variable as VariableKind, Minus, Sum, Difference, Product, If}
 use Rattle.kinds.specs.declared.Shape.{Shape}
 use Rattle.kinds.specs.declared.Shape.the-variants.{Wrong, Bare, Valued, Named, One, Two, Three}
-use Rattle.kinds.specs.Kinds.{row}
-use Rattle.kinds.specs.Rows.{Args, Known, Each, by-rows}
+use Rattle.kinds.specs.Kinds.{Args, row}
+use Rattle.kinds.specs.Rows.{Known}
+use Rattle.kinds.proofs.KindLaws.{passes}
+use Rattle.kinds.proofs.RowLaws.{Each, by-rows}
 use Rattle.layout.proofs.Made.{foundMade, found-make}
 use Rattle.smtlib.specs.Characters.{every, letterChar, digitChar, symbolChar}
-use Rattle.smtlib.specs.Tokens.{Atom, symbol, numeral, reservedWords, simple}
+use Rattle.smtlib.specs.Tokens.{Atom, symbol, numeral, reservedWords, simple, listed}
 use Rattle.smtlib.specs.Sexps.{Sexp, nil, cons}
-use Rattle.smtlib.proofs.Printing.{digitByte, spelling, print, lines, Spelled, Printable, Listing}
+use Rattle.smtlib.specs.Spelling.{digitByte, spelling, Spelled}
+use Rattle.smtlib.proofs.Printing.{print, lines, Printable, Listing}
 use Rattle.smtlib.proofs.Spelling.{spelled-symbol, spelled-reserved, spelled-numeral, spelled-hexadecimal}
 use Rattle.wording.specs.Words.{wordOf}
 use Rattle.wording.specs.Text.{textBy, textStep, text}
 use Rattle.wording.specs.Sixteen.{hexDigit, hexText, literal, symbolText}
 use Rattle.wording.specs.Script.{claims, declaration, declarations, assertion, linesOf, ended}
-use Rattle.wording.proofs.Sexps.{sexpBy, sexpStep, sexp, declareSexp, declareChain, assertChain, chainOf, constant16, width16}
+use Rattle.forms.proofs.Sexps.{sexpBy, sexpStep, sexp, declareSexp, declareChain, assertChain, chainOf, constant16, width16}
 
 -- ---- words
 
@@ -46,26 +49,33 @@ Worded (One s) = Unit {0}
 Worded (Two s t) = Unit {0}
 Worded (Three s t u) = Unit {0}
 
+-- such a word is a symbol that isn't reserved
+abbrev wordRight : Shape → List ℕ → Bool
+wordRight Wrong w = true
+wordRight Bare w = simple w && not (listed reservedWords w)
+wordRight Valued w = true
+wordRight Named w = true
+wordRight (One s) w = simple w && not (listed reservedWords w)
+wordRight (Two s t) w = simple w && not (listed reservedWords w)
+wordRight (Three s t u) w = simple w && not (listed reservedWords w)
+
+word-right : (h : Shape) (w : List ℕ) → Worded h → wordRight h w ≡ true → simple w && not (listed reservedWords w) ≡ true
+word-right Wrong w q e = absurd q
+word-right Bare w q e = e
+word-right Valued w q e = absurd q
+word-right Named w q e = absurd q
+word-right (One s) w q e = e
+word-right (Two s t) w q e = e
+word-right (Three s t u) w q e = e
+
+words-right : (k : Kind) → wordRight (row k .shape) (wordOf k) ≡ true
+unfolding sameBytes every letterChar digitChar symbolChar reservedWords
+words-right = passes (λ k. wordRight (row k .shape) (wordOf k)) refl
+
 word-spelled : (k : Kind) → Worded (row k .shape) → Spelled (symbol (wordOf k))
-unfolding wordOf every letterChar digitChar symbolChar reservedWords
-word-spelled Unknown q = absurd q
-word-spelled True q = spelled-symbol _ refl refl
-word-spelled False q = spelled-symbol _ refl refl
-word-spelled Not q = spelled-symbol _ refl refl
-word-spelled And q = spelled-symbol _ refl refl
-word-spelled Or q = spelled-symbol _ refl refl
-word-spelled Implies q = spelled-symbol _ refl refl
-word-spelled Iff q = spelled-symbol _ refl refl
-word-spelled Equal q = spelled-symbol _ refl refl
-word-spelled Less q = spelled-symbol _ refl refl
-word-spelled AtMost q = spelled-symbol _ refl refl
-word-spelled Constant q = absurd q
-word-spelled VariableKind q = absurd q
-word-spelled Minus q = spelled-symbol _ refl refl
-word-spelled Sum q = spelled-symbol _ refl refl
-word-spelled Difference q = spelled-symbol _ refl refl
-word-spelled Product q = spelled-symbol _ refl refl
-word-spelled If q = spelled-symbol _ refl refl
+word-spelled k q =
+    let w = both (simple (wordOf k)) _ (word-right (row k .shape) (wordOf k) q (words-right k)) in
+    spelled-symbol (wordOf k) (w .0) (not-true _ (w .1))
 
 -- ---- lines
 
@@ -143,18 +153,18 @@ module _ (constant : ℤ → Atom) (name : ℕ → List ℕ) where
 
     module _ (width : List ℕ) (numbers : Spelled (numeral width)) where
       declares-listing : (i : ℕ) (vs : List Variable) (s : Sexp) → Listing s → Listing (declareChain constant name width i vs s)
-      unfolding every letterChar digitChar symbolChar reservedWords
+      unfolding sameBytes every letterChar digitChar symbolChar reservedWords
       declares-listing i [] s h = h
       declares-listing i (v ∷ vs) s h =
           ((spelled-reserved _ refl refl, (names i, (tt, ((spelled-reserved _ refl refl, (spelled-symbol _ refl refl, (numbers, tt))), tt)))), declares-listing (suc i) vs s h)
 
       asserts-listing : (ts : List (Tree Truth)) (s : Sexp) → Listing s → Listing (assertChain constant name width ts s)
-      unfolding every letterChar digitChar symbolChar reservedWords
+      unfolding sameBytes every letterChar digitChar symbolChar reservedWords
       asserts-listing [] s h = h
       asserts-listing (t ∷ ts) s h = ((spelled-reserved _ refl refl, (printable t, tt)), asserts-listing ts s h)
 
       pub chain-listing : (r : Rule) → Listing (chainOf constant name width r)
-      unfolding every letterChar digitChar symbolChar reservedWords
+      unfolding sameBytes every letterChar digitChar symbolChar reservedWords
       chain-listing r = (
         (spelled-reserved _ refl refl, (spelled-symbol _ refl refl, tt)),
         declares-listing 0 (r .variables) _ (asserts-listing (claims 0 (r .variables) (r .goal)) _ ((spelled-reserved _ refl refl, tt), ((spelled-reserved _ refl refl, tt), tt))),
@@ -176,7 +186,7 @@ unfolding symbolChar letterChar digitChar allBelow
 digit-char d h = all-true (λ j. symbolChar (48 + j)) 10 refl d h
 
 pub symbol-spelled : (i : ℕ) → Spelled (symbol (symbolText i))
-unfolding symbolText every symbolChar letterChar digitChar reservedWords
+unfolding sameBytes symbolText every symbolChar letterChar digitChar reservedWords
 symbol-spelled i = spelled-symbol (symbolText i) (by (ltb i 10) refl) refl
   where
     by : (b : Bool) → ltb i 10 ≡ b → simple (symbolText i) ≡ true
