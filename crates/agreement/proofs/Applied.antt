@@ -41,9 +41,9 @@ use Rattle.header.specs.Header.{zeros, countsRight, tailClear, outsideClear, he
 use Rattle.lists.specs.Names.{sameBytes}
 use Rattle.records.specs.Variables.{isLetter, isNameByte, allNameBytes, nameRight, variableRight, fresh}
 use Rattle.findings.specs.declared.Finding.the-variants.{Integer}
-use Rattle.findings.specs.Findings.{findingOf}
-use Rattle.order.specs.Order.{placed}
-use Rattle.nodes.specs.Nodes.{typed, nodeRefusal, nodes, findingAt}
+use Rattle.findings.specs.Findings.{findingOf, findingAt}
+use Rattle.order.specs.Order.{rightlyPlaced}
+use Rattle.nodes.specs.Nodes.{typed, nodeRefusal, nodes}
 use Rattle.reading.specs.Rows.{sheetRows}
 use Rattle.reading.specs.Cascade.{refusalOf}
 use Rattle.reading.specs.Lawful.{Allowed}
@@ -199,7 +199,7 @@ abbrev pub sheet11-renamed : List ℕ
 sheet11-renamed = sheetFrom "0100 0500 02" ("fdff 0200 01 00 70" ∷ "fcff 0500 01 00 71" ∷ []) "0e6e" ("1100 0000" ∷ "1100 0100" ∷ "1500 0000 0100" ∷ "1000 0000 0000 0000 0c00" ∷ "0a00 0200 0300" ∷ []) "bc0d"
 
 pub computed : Computed sheetA sheetB 2 2 (some (pos 0 ∷ pos 1 ∷ [])) × Computed sheet11 sheet11-renamed 60 0 none
-unfolding value sizeOf casesOf holds failures firstFailure held failed treeAt allBelow below course first enc dec isNarrow hasNarrowEnds leastOf greatestOf find kindOf weighted checkOf blockRight startAt ofTree ofNode lengthRight early zeros countsRight tailClear outsideClear header isLetter isNameByte allNameBytes nameRight sameBytes variableRight fresh findingOf placed typed nodeRefusal nodes refusalOf hexDigit hexText literal symbolText script
+unfolding value sizeOf casesOf holds failures firstFailure held failed treeAt allBelow below course first enc dec isNarrow hasNarrowEnds leastOf greatestOf find kindOf weighted checkOf blockRight startAt ofTree ofNode lengthRight early zeros countsRight tailClear outsideClear header isLetter isNameByte allNameBytes nameRight sameBytes variableRight fresh findingOf rightlyPlaced typed nodeRefusal nodes refusalOf hexDigit hexText literal symbolText script
 computed = (record { facts = refl; scripts = refl }, record { facts = refl; scripts = refl })
 
 abbrev computedA : Computed sheetA sheetB 2 2 (some (pos 0 ∷ pos 1 ∷ []))
@@ -262,7 +262,7 @@ case-A = first-fails (ruleIn sheetA) (first-is computedA (lit≤ tt)) .0
 
 -- ---- a sheet that is refused: 16,384 + 16,384 at node 2
 pub refusal-8 : refusalOf sheet8 ≡ some (record { number = 8; place = 2 })
-unfolding allBelow below course first dec isNarrow hasNarrowEnds leastOf greatestOf find kindOf weighted checkOf blockRight startAt ofNode lengthRight early zeros countsRight tailClear outsideClear header isLetter isNameByte allNameBytes nameRight sameBytes variableRight fresh findingOf placed typed nodeRefusal nodes refusalOf
+unfolding allBelow below course first dec isNarrow hasNarrowEnds leastOf greatestOf find kindOf weighted checkOf blockRight startAt ofNode lengthRight early zeros countsRight tailClear outsideClear header isLetter isNameByte allNameBytes nameRight sameBytes variableRight fresh findingOf rightlyPlaced typed nodeRefusal nodes refusalOf
 refusal-8 = refl
 
 pub refused-8 : Answered (sheetRows sheet8) (record { number = 8; place = 2 })

@@ -27,7 +27,7 @@ use Rattle.header.specs.Header.{zeros, countsRight, tailClear, outsideClear, he
 use Rattle.lists.specs.Names.{sameBytes}
 use Rattle.records.specs.Variables.{isLetter, isNameByte, allNameBytes, nameRight, variableRight, fresh}
 use Rattle.findings.specs.Findings.{findingOf}
-use Rattle.order.specs.Order.{placed}
+use Rattle.order.specs.Order.{rightlyPlaced}
 use Rattle.nodes.specs.Nodes.{typed, nodeRefusal, nodes}
 use Rattle.reading.specs.Cascade.{refusalOf}
 use Rattle.odometer.specs.Limit.{mostCases, caseCount}
@@ -45,7 +45,7 @@ use Rattle.agreement.specs.Starred.{StarredCase, EachMet, starredCases}
 -- ---- what `read` answers of each sheet
 reads : map (λ (c : StarredCase). refusalOf (c .sheet)) starredCases
     ≡ some (record { number = 4; place = 0 }) ∷ none ∷ none ∷ none ∷ none ∷ none ∷ none ∷ some (record { number = 8; place = 2 }) ∷ none ∷ some (record { number = 8; place = 1 }) ∷ none ∷ []
-unfolding allBelow below course first dec isNarrow hasNarrowEnds leastOf greatestOf find kindOf weighted checkOf blockRight startAt ofNode lengthRight early zeros countsRight tailClear outsideClear header isLetter isNameByte allNameBytes nameRight sameBytes variableRight fresh findingOf placed typed nodeRefusal nodes refusalOf
+unfolding allBelow below course first dec isNarrow hasNarrowEnds leastOf greatestOf find kindOf weighted checkOf blockRight startAt ofNode lengthRight early zeros countsRight tailClear outsideClear header isLetter isNameByte allNameBytes nameRight sameBytes variableRight fresh findingOf rightlyPlaced typed nodeRefusal nodes refusalOf
 reads = refl
 
 -- in row n

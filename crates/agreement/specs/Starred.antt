@@ -17,7 +17,7 @@ use Rattle.refusals.specs.declared.Reading.{Reading}
 use Rattle.refusals.specs.declared.Reading.the-variants.{Accepted, Refused}
 use Rattle.refusals.specs.Said.{saidOf}
 use Rattle.findings.specs.declared.Finding.the-variants.{Integer}
-use Rattle.nodes.specs.Nodes.{findingAt}
+use Rattle.findings.specs.Findings.{findingAt}
 use Rattle.reading.specs.Cascade.{refusalOf}
 use Rattle.cases.specs.declared.Checked.{Checked}
 use Rattle.cases.specs.declared.Checked.the-variants.{Holds, Fails}

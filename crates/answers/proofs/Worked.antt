@@ -24,7 +24,7 @@ use Rattle.header.specs.Header.{zeros, countsRight, tailClear, outsideClear, he
 use Rattle.lists.specs.Names.{sameBytes}
 use Rattle.records.specs.Variables.{isLetter, isNameByte, allNameBytes, nameRight, variableRight, fresh}
 use Rattle.findings.specs.Findings.{findingOf}
-use Rattle.order.specs.Order.{placed}
+use Rattle.order.specs.Order.{rightlyPlaced}
 use Rattle.nodes.specs.Nodes.{typed, nodeRefusal, nodes}
 use Rattle.reading.specs.Cascade.{refusalOf}
 use Rattle.wording.specs.Words.{wordOf}
@@ -67,5 +67,5 @@ table =
     ∷ []
 
 pub answers : map (λ (r : Row). answerText (r .0) (r .1)) table ≡ map (λ (r : Row). r .2) table
-unfolding value sizeOf casesOf holds failures firstFailure held failed treeAt allBelow below course first enc dec isNarrow hasNarrowEnds leastOf greatestOf find kindOf weighted checkOf sealed blockRight startAt ofTree ofNode sheetOf lengthRight early zeros countsRight tailClear outsideClear header isLetter isNameByte allNameBytes nameRight sameBytes variableRight fresh findingOf placed typed nodeRefusal nodes refusalOf hexDigit hexText literal symbolText script decimalIn decimal signed numbersLine refusalLine answered nameValue nameValues checkLine answerText
+unfolding value sizeOf casesOf holds failures firstFailure held failed treeAt allBelow below course first enc dec isNarrow hasNarrowEnds leastOf greatestOf find kindOf weighted checkOf sealed blockRight startAt ofTree ofNode sheetOf lengthRight early zeros countsRight tailClear outsideClear header isLetter isNameByte allNameBytes nameRight sameBytes variableRight fresh findingOf rightlyPlaced typed nodeRefusal nodes refusalOf hexDigit hexText literal symbolText script decimalIn decimal signed numbersLine refusalLine answered nameValue nameValues checkLine answerText
 answers = refl

@@ -28,8 +28,7 @@ use Rattle.header.specs.Header.{Counted}
 use Rattle.header.proofs.HeaderLaws.{node-inside}
 use Rattle.findings.specs.declared.Finding.{Finding}
 use Rattle.findings.specs.declared.Finding.the-variants.{Truth, Integer}
-use Rattle.findings.specs.Findings.{sortOf}
-use Rattle.nodes.specs.Nodes.{findingAt}
+use Rattle.findings.specs.Findings.{sortOf, findingAt}
 use Rattle.nodes.proofs.LoopLaws.{finding-sort}
 use Rattle.reading.proofs.RuleLaws.{accepted-counted, accepted-sound}
 use Rattle.reading.proofs.Ranges.{in-16-bits}

@@ -1,2 +1,3 @@
 pub mod FindingLaws
+pub mod PackedLaws
 pub mod SoundFindings

@@ -2,14 +2,18 @@
 use Prim.Native.Nat.{ℕ}
 use lib.IntN.{pos}
 use mathlib.Core.Bool.{Bool, true}
+use mathlib.Core.List.{List}
 use Rattle.numbers.specs.declared.Range.{Range}
 use Rattle.numbers.specs.Ranges.{_⋯_, NarrowEnds, hasNarrowEnds, minusOf, sumOf, differenceOf, productOf, unionOf}
 use Rattle.meaning.specs.declared.Sort.{Sort}
 use Rattle.meaning.specs.declared.Sort.the-variants.{Truth as truth, Integer as integer}
+use Rattle.meaning.specs.Rule.{domainOf}
 use Rattle.kinds.specs.declared.Kind.{Kind}
-use Rattle.kinds.specs.declared.Kind.the-variants.{Unknown, True, False, Not, And, Or, Implies, Iff, Equal, Less, AtMost, Constant, Variable, Minus, Sum, Difference, Product, If}
+use Rattle.kinds.specs.declared.Shape.{Shape}
+use Rattle.kinds.specs.declared.Shape.the-variants.{Wrong, Bare, Valued, Named, One, Two, Three}
 use Rattle.kinds.specs.Kinds.{row}
-use Rattle.layout.specs.Fold.{Found}
+use Rattle.layout.specs.Fold.{Found, ofNode}
+use Rattle.layout.specs.Parts.{table, ruleIn}
 use Rattle.findings.specs.declared.Finding.{Finding}
 use Rattle.findings.specs.declared.Finding.the-variants.{Truth, Integer}
 
@@ -18,37 +22,62 @@ abbrev pub sortOf : Finding → Sort
 sortOf Truth = truth
 sortOf (Integer r) = integer
 
--- the range of what is found; of a truth value, 0..0 stands for it
+-- what stands where there is no range
+abbrev pub noRange : Range
+noRange = pos 0 ⋯ pos 0
+
+-- the range of what is found
 abbrev pub rangeOf : Finding → Range
-rangeOf Truth = pos 0 ⋯ pos 0
+rangeOf Truth = noRange
 rangeOf (Integer r) = r
 
--- kinds 1 to 10 give a truth value, 16 to 22 an integer: a constant c has c..c, a variable its domain, the others by their operands' ranges
+-- kinds 1 to 10 give a truth value, 16 to 22 an integer, whose range follows from the operands' ranges x, y and z; a constant and a variable have x itself
+abbrev pub resultOf : Kind → Range → Range → Range → Finding
+resultOf Kind.Unknown x y z = Truth
+resultOf Kind.True x y z = Truth
+resultOf Kind.False x y z = Truth
+resultOf Kind.Not x y z = Truth
+resultOf Kind.And x y z = Truth
+resultOf Kind.Or x y z = Truth
+resultOf Kind.Implies x y z = Truth
+resultOf Kind.Iff x y z = Truth
+resultOf Kind.Equal x y z = Truth
+resultOf Kind.Less x y z = Truth
+resultOf Kind.AtMost x y z = Truth
+resultOf Kind.Constant x y z = Integer x
+resultOf Kind.Variable x y z = Integer x
+resultOf Kind.Minus x y z = Integer (minusOf x)
+resultOf Kind.Sum x y z = Integer (sumOf x y)
+resultOf Kind.Difference x y z = Integer (differenceOf x y)
+resultOf Kind.Product x y z = Integer (productOf x y)
+resultOf Kind.If x y z = Integer (unionOf y z)
+
+-- by the shape, where δ has the variables' domains: a constant c has c..c, a variable its domain, an operand the range that was found of it
+abbrev pub findingFrom : (ℕ → Range) → (Range → Range → Range → Finding) → (h : Shape) → Found Finding h → Finding
+findingFrom δ made Wrong x = made noRange noRange noRange
+findingFrom δ made Bare x = made noRange noRange noRange
+findingFrom δ made Valued c = made (c ⋯ c) noRange noRange
+findingFrom δ made Named i = made (δ i) noRange noRange
+findingFrom δ made (One s) x = made (rangeOf x) noRange noRange
+findingFrom δ made (Two s t) x = made (rangeOf (x .0)) (rangeOf (x .1)) noRange
+findingFrom δ made (Three s t u) x = made (rangeOf (x .0)) (rangeOf (x .1)) (rangeOf (x .2))
+
+-- what a node of a kind is found to be
 unfoldable pub findingOf : (ℕ → Range) → (k : Kind) → Found Finding (row k .shape) → Finding
-findingOf δ Unknown x = Truth
-findingOf δ True x = Truth
-findingOf δ False x = Truth
-findingOf δ Not x = Truth
-findingOf δ And x = Truth
-findingOf δ Or x = Truth
-findingOf δ Implies x = Truth
-findingOf δ Iff x = Truth
-findingOf δ Equal x = Truth
-findingOf δ Less x = Truth
-findingOf δ AtMost x = Truth
-findingOf δ Constant c = Integer (c ⋯ c)
-findingOf δ Variable i = Integer (δ i)
-findingOf δ Minus x = Integer (minusOf (rangeOf x))
-findingOf δ Sum x = Integer (sumOf (rangeOf (x .0)) (rangeOf (x .1)))
-findingOf δ Difference x = Integer (differenceOf (rangeOf (x .0)) (rangeOf (x .1)))
-findingOf δ Product x = Integer (productOf (rangeOf (x .0)) (rangeOf (x .1)))
-findingOf δ If x = Integer (unionOf (rangeOf (x .1)) (rangeOf (x .2)))
+findingOf δ k x = findingFrom δ (resultOf k) (row k .shape) x
+
+-- variable i's domain, and what node n is found to be, in the sheet s
+abbrev pub domainAt : List ℕ → ℕ → Range
+domainAt s = domainOf (ruleIn s)
+
+abbrev pub findingAt : List ℕ → ℕ → Finding
+findingAt s n = ofNode (findingOf (domainAt s)) Truth (table s) n
 
 -- a range lies in -32,768..32,767
-abbrev pub fitting : Finding → Bool
-fitting Truth = true
-fitting (Integer r) = hasNarrowEnds r
+abbrev pub findingFits : Finding → Bool
+findingFits Truth = true
+findingFits (Integer r) = hasNarrowEnds r
 
-abbrev pub Fits : Finding → Type 0
-Fits Truth = Unit {0}
-Fits (Integer r) = NarrowEnds r
+abbrev pub FindingFits : Finding → Type 0
+FindingFits Truth = Unit {0}
+FindingFits (Integer r) = NarrowEnds r

@@ -1,19 +1,23 @@
--- What is answered at a node from the findings of its operands: refusal 7 for an operand of the wrong sort, else refusal 8 for a range that leaves 16 bits.
-use Prim.Native.Nat.{ℕ}
+-- The test of operands' sorts, which the cascade uses, and the answer at a node as the code works it out, which its contracts cite: rows and statements do without both.
+use Prim.Native.Nat.{ℕ, _<_}
 use mathlib.Core.Bool.{Bool, true, false, _&&_}
+use mathlib.Core.List.{List, [], _∷_}
 use Rattle.numbers.specs.declared.Range.{Range}
-use Rattle.numbers.specs.Two.{dec}
 use Rattle.meaning.specs.declared.Sort.{Sort}
 use Rattle.meaning.specs.declared.Sort.the-variants.{Truth as truth, Integer as integer}
+use Rattle.kinds.specs.declared.Kind.{Kind}
 use Rattle.kinds.specs.declared.Record.{Record}
 use Rattle.kinds.specs.declared.Shape.{Shape}
-use Rattle.kinds.specs.declared.Shape.the-variants.{Wrong, Bare, Valued, Named, One, Two, Three}
-use Rattle.layout.specs.Starts.{shapeAt}
-use Rattle.layout.specs.Fold.{Found}
+use Rattle.kinds.specs.declared.Shape.the-variants as Shape
+use Rattle.layout.specs.Limits.{mostNodes}
+use Rattle.layout.specs.Starts.{shapeAt, operandsOf, sortsOf}
+use Rattle.layout.specs.Fold.{foundBy}
 use Rattle.findings.specs.declared.Finding.{Finding}
+use Rattle.findings.specs.declared.Operand.{Operand}
+use Rattle.findings.specs.declared.Operand.the-variants.{Wrong, Right}
 use Rattle.findings.specs.declared.Step.{Step}
 use Rattle.findings.specs.declared.Step.the-variants.{Good, Bad}
-use Rattle.findings.specs.Findings.{sortOf, findingOf, fitting}
+use Rattle.findings.specs.Findings.{sortOf, noRange, rangeOf, resultOf, findingOf, findingFits}
 
 abbrev pub sameSort : Sort → Sort → Bool
 sameSort truth truth = true
@@ -21,34 +25,48 @@ sameSort truth integer = false
 sameSort integer truth = false
 sameSort integer integer = true
 
--- the operands' findings are of the sorts that the shape asks for, the last operand first
-abbrev pub sortsRight : Shape → Finding → Finding → Finding → Bool
-sortsRight Wrong f g h = true
-sortsRight Bare f g h = true
-sortsRight Valued f g h = true
-sortsRight Named f g h = true
-sortsRight (One s) f g h = sameSort (sortOf f) s && true
-sortsRight (Two s t) f g h = sameSort (sortOf g) t && (sameSort (sortOf f) s && true)
-sortsRight (Three s t u) f g h = sameSort (sortOf h) u && (sameSort (sortOf g) t && (sameSort (sortOf f) s && true))
+-- each operand gives the sort asked of it
+abbrev pub areSorted : (ℕ → Sort) → List ℕ → List Sort → Bool
+areSorted so [] ss = true
+areSorted so (x ∷ xs) [] = true
+areSorted so (x ∷ xs) (s ∷ ss) = sameSort (so x) s && areSorted so xs ss
 
--- what the node is found from
-abbrev pub foundFrom : (h : Shape) → Record → Finding → Finding → Finding → Found Finding h
-foundFrom Wrong r f g h = tt
-foundFrom Bare r f g h = tt
-foundFrom Valued r f g h = dec 16 (r .value)
-foundFrom Named r f g h = r .a
-foundFrom (One s) r f g h = f
-foundFrom (Two s t) r f g h = (f, g)
-foundFrom (Three s t u) r f g h = (f, g, h)
+-- a finding that fits 16 bits, else refusal 8
+abbrev pub fitted : Finding → Step
+fitted x = elim (findingFits x) [ true ↦ Good x | false ↦ Bad 8 ]
 
--- a finding is kept where it fits 16 bits
-abbrev pub kept : Finding → Step
-kept x = elim (fitting x) [ true ↦ Good x | false ↦ Bad 8 ]
-
--- the answer at a node with the record r whose fields a, b and c name nodes found to be f, g and h
-unfoldable pub stepOf : (ℕ → Range) → Record → Finding → Finding → Finding → Step
-stepOf δ r f g h =
-    elim (sortsRight (shapeAt r) f g h) [
-      | true ↦ kept (findingOf δ (r .kind) (foundFrom (shapeAt r) r f g h))
+-- at a node with the record r, where g has the findings of the nodes before it: refusal 7 for an operand of the wrong sort, then 8
+unfoldable pub stepOf : (ℕ → Range) → Record → (ℕ → Finding) → Step
+stepOf δ r g =
+    elim (areSorted (λ j. sortOf (g j)) (operandsOf (shapeAt r) r) (sortsOf (shapeAt r))) [
+      | true ↦ fitted (findingOf δ (r .kind) (foundBy (shapeAt r) r g))
       | false ↦ Bad 7
     ]
+
+-- an operand of the sort asked for goes on with its range, another is refusal 7
+abbrev pub operandOf : Finding → Sort → Operand
+operandOf f s = elim (sameSort (sortOf f) s) [ true ↦ Right (rangeOf f) | false ↦ Wrong ]
+
+abbrev pub goOn : Operand → (Range → Step) → Step
+goOn Wrong next = Bad 7
+goOn (Right p) next = next p
+
+-- by the number of operands
+unfoldable pub oneStep : Kind → Sort → Finding → Step
+oneStep k s f = goOn (operandOf f s) (λ p. fitted (resultOf k p noRange noRange))
+
+unfoldable pub twoStep : Kind → Sort → Sort → Finding → Finding → Step
+twoStep k s t f g = goOn (operandOf f s) (λ p. goOn (operandOf g t) (λ q. fitted (resultOf k p q noRange)))
+
+unfoldable pub threeStep : Kind → Sort → Sort → Sort → Finding → Finding → Finding → Step
+threeStep k s t u f g h = goOn (operandOf f s) (λ p. goOn (operandOf g t) (λ q. goOn (operandOf h u) (λ o. fitted (resultOf k p q o))))
+
+-- what is asked of the record: operands' numbers within the table, a variable's below v
+abbrev pub Reaches : Shape → Record → ℕ → Type 0
+Reaches Shape.Wrong r v = Unit {0}
+Reaches Shape.Bare r v = Unit {0}
+Reaches Shape.Valued r v = Unit {0}
+Reaches Shape.Named r v = r .a < v
+Reaches (Shape.One s) r v = r .a < mostNodes
+Reaches (Shape.Two s t) r v = (r .a < mostNodes) × (r .b < mostNodes)
+Reaches (Shape.Three s t u) r v = (r .a < mostNodes) × (r .b < mostNodes) × (r .c < mostNodes)

@@ -28,7 +28,6 @@ use Rattle.smtlib.specs.Theory.{functions, function}
 use Rattle.smtlib.specs.Terms.{Environment, value}
 use Rattle.smtlib.proofs.TermLaws.{value-constant, value-truths1, value-vectors1, value-left, value-right, value-relation, value-vectors2, value-order, value-choice}
 use Rattle.smtlib.proofs.OrderLaws.{bvslt-is, bvsle-is}
-use Rattle.wording.specs.Words.{wordOf}
 use Rattle.forms.proofs.MeansTrees.{NoWrap, Below}
 use Rattle.forms.proofs.Sexps.{sexp}
 

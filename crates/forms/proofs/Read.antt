@@ -42,7 +42,6 @@ use Rattle.smtlib.specs.Scripts.{isDeclared, formula, gather, setsLogic, script
 use Rattle.smtlib.proofs.NameLaws.{no-function, stands-here, stands-later}
 use Rattle.smtlib.proofs.TermLaws.{call1, call2, call3, value-symbol, value-hexadecimal, value-constant, value-truths1, value-vectors1, value-left, value-right, value-relation, value-vectors2, value-order, value-choice}
 use Rattle.smtlib.proofs.CommandLaws.{declare-read, assert-read, check-read, exit-read, vector-read, begins, declares-next, asserts-next, asks-next, exits, declared-append, fresh-name}
-use Rattle.wording.specs.Words.{wordOf}
 use Rattle.wording.specs.Sixteen.{symbolText}
 use Rattle.wording.specs.Script.{claims}
 use Rattle.forms.specs.Form.{Texts}

@@ -9,7 +9,7 @@ use lib.IntN.{ℤ}
 use borrow.Author.Tests.{ltb-true, not-true}
 use Rattle.lists.specs.Ascii.{ascii}
 use Rattle.lists.specs.Joined.{joined}
-use Rattle.lists.specs.Names.{sameBytes}
+use Rattle.lists.specs.Names.{sameBytes, listed}
 use Rattle.lists.specs.Places.{allBelow}
 use Rattle.lists.proofs.TestLaws.{both, and, all-true}
 use Rattle.numbers.specs.Two.{enc}
@@ -26,7 +26,7 @@ use Rattle.kinds.proofs.KindLaws.{passes}
 use Rattle.kinds.proofs.RowLaws.{Each, by-rows}
 use Rattle.layout.proofs.Made.{foundMade, found-make}
 use Rattle.smtlib.specs.Characters.{every, letterChar, digitChar, symbolChar}
-use Rattle.smtlib.specs.Tokens.{Atom, symbol, numeral, reservedWords, simple, listed}
+use Rattle.smtlib.specs.Tokens.{Atom, symbol, numeral, reservedWords, simple}
 use Rattle.smtlib.specs.Sexps.{Sexp, nil, cons}
 use Rattle.smtlib.specs.Spelling.{digitByte, spelling, Spelled}
 use Rattle.smtlib.proofs.Printing.{print, lines, Printable, Listing}

@@ -7,7 +7,6 @@ use mathlib.Core.Option.{some}
 use lib.Dec.{lit<, lit≤}
 use Rattle.lists.specs.Ascii.{ascii}
 use Rattle.numbers.specs.Two.{enc}
-use Rattle.meaning.specs.declared.Sort.{Sort}
 use Rattle.meaning.specs.declared.Sort.the-variants.{Truth}
 use Rattle.meaning.specs.Tree.{Tree, tru, fls, iff, equal, var}
 use Rattle.kinds.proofs.RowLaws.{by-rows}
@@ -27,9 +26,7 @@ use Rattle.smtlib.proofs.Printing.{print, Printable}
 use Rattle.smtlib.proofs.TermLaws.{call1, call2}
 use Rattle.smtlib.proofs.SatisfactionLaws.{meets-test}
 use Rattle.smtlib.proofs.Running.{scriptRead}
-use Rattle.wording.specs.Words.{wordOf}
-use Rattle.wording.specs.Text.{text}
-use Rattle.wording.specs.Sixteen.{literal, symbolText}
+use Rattle.wording.specs.Sixteen.{symbolText}
 use Rattle.wording.specs.Script.{script}
 use Rattle.wording.proofs.Worked.{text16, bytesA, scriptA}
 use Rattle.forms.proofs.Sexps.{sexp, constant16, width16, asked16}

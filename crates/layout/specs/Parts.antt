@@ -1,5 +1,5 @@
 -- The parts of a sheet, read from its bytes (document 01, "The sheet in 512-byte blocks").
-use Prim.Native.Nat.{ℕ, _+_, _≤_, _<_}
+use Prim.Native.Nat.{ℕ, _+_, _-_, _≤_, _<_}
 use mathlib.Core.List.{List}
 use lib.ListN.{take, drop}
 use Rattle.lists.specs.Places.{from}
@@ -17,6 +17,10 @@ edition s = u16At s editionOffset
 
 abbrev pub nodeCount : List ℕ → ℕ
 nodeCount s = u16At s nodeCountOffset
+
+-- the last node is the goal
+abbrev pub goalAt : List ℕ → ℕ
+goalAt s = nodeCount s - 1
 
 abbrev pub variableCount : List ℕ → ℕ
 variableCount s = byteAt s variableCountOffset

@@ -12,10 +12,11 @@ use refusals::Reading;
 use refusals::Refusal;
 
 // What is answered where no node is refused: start is where the goal's subtree starts, f what the goal is found to be.
-fn read_goal(start: u16, f: Finding, place: usize) -> Reading
-    ensures { λ r. ⌜ saidOf r ≡ goalRefusal start (sortOf f) place ⌝ }
+fn read_goal(goal: NodeNumber, start: NodeNumber, f: Finding) -> Reading
+    ensures { λ r. ⌜ saidOf r ≡ goalRefusal (start .0) (sortOf f) (goal .0) ⌝ }
 {
-    if start != 0 {
+    let place = goal.0 as usize;
+    if start.0 != 0 {
         return Reading::Refused(Refusal { number: 6, place });
     }
     let Finding::Truth = f else {
@@ -32,33 +33,30 @@ pub fn read_nodes(sheet: &[u8]) -> Reading
     let n = header::node_count(sheet);
     let v = header::variable_count(sheet);
     let mut starts = [0u16; MOST_NODES];
-    let truth = Finding::Truth;
-    let mut findings = [truth; MOST_NODES];
+    let mut findings = [0u64; MOST_NODES];
     let mut i: usize = 0;
     while i < n {
-        let node = i as u16;
-        let r = records::record_at(sheet, NodeNumber(node));
-        if !order::right_place(r, v, i, &starts) {
+        let node = NodeNumber(i as u16);
+        let r = records::record_at(sheet, node);
+        if !order::right_place(r, v, node, &starts) {
             return Reading::Refused(Refusal {
                 number: 6,
                 place: i,
             });
         }
-        let a = r.a as usize;
-        let b = r.b as usize;
-        let c = r.c as usize;
-        let step = findings::found(sheet, r, findings[a], findings[b], findings[c]);
+        let step = findings::node_step(sheet, r, &findings);
         match step {
             Step::Bad(number) => {
                 return Reading::Refused(Refusal { number, place: i });
             }
             Step::Good(f) => {
-                starts[i] = order::start(r, node, &starts);
-                findings[i] = f;
+                starts[i] = order::start(r, node, &starts).0;
+                findings[i] = findings::packed(f);
             }
         }
         i += 1;
     }
-    let goal = n - 1;
-    read_goal(starts[goal], findings[goal], goal)
+    let goal = NodeNumber((n - 1) as u16);
+    let start = order::start_of(goal, &starts);
+    read_goal(goal, start, findings::finding_at(goal, &findings))
 }

@@ -10,16 +10,14 @@ use lib.Dec.{eqb}
 use Rattle.lists.specs.Course.{below}
 use Rattle.lists.proofs.CourseLaws.{below-is, below-past}
 use Rattle.lists.proofs.Decided.{Decides, always, decides-as, decides-and, decides-eq}
-use Rattle.kinds.specs.declared.Kind.the-variants.{Variable}
 use Rattle.kinds.specs.declared.Record.{Record}
 use Rattle.kinds.specs.declared.Shape.{Shape}
 use Rattle.kinds.specs.declared.Shape.the-variants.{Wrong, Bare, Valued, Named, One, Two, Three}
 use Rattle.kinds.specs.Rows.{Known}
-use Rattle.layout.specs.Limits.{mostVariables, mostNodes}
 use Rattle.layout.specs.Starts.{shapeAt, operandsOf, startStep, startAt, Ordered, VariableBelow}
 use Rattle.layout.specs.LaidOut.{unusedOf, Placed}
 use Rattle.layout.proofs.StartLaws.{start-low, Before}
-use Rattle.order.specs.Order.{isKnown, inOrder, isListed, placed}
+use Rattle.order.specs.Order.{isKnown, inOrder, isListed, rightlyPlaced}
 
 -- ---- each test and what it decides
 pub decides-known : (h : Shape) → Decides (isKnown h) (Known h)
@@ -52,8 +50,8 @@ pub record Keeps (r : Record) (v n : ℕ) (st : ℕ → ℕ) : Type 0 where
   pub listed : VariableBelow (shapeAt r) r v
 
 module _ (r : Record) (v n : ℕ) (st : ℕ → ℕ) where
-  pub decides-keeps : Decides (placed r v n st) (Keeps r v n st)
-  unfolding placed
+  pub decides-keeps : Decides (rightlyPlaced r v n st) (Keeps r v n st)
+  unfolding rightlyPlaced
   decides-keeps =
       let h : Shape = shapeAt r in
       let kc = decides-and (decides-known h) (decides-eq (unusedOf h r + r .spare) 0) in
@@ -63,35 +61,35 @@ module _ (r : Record) (v n : ℕ) (st : ℕ → ℕ) where
 
   -- from the answers of the code's tests, in its order
   module _ {h : Shape} (eh : h ≡ shapeAt r) {k : Bool} (ek : k ≡ isKnown h) where
-    pub by-known : k ≡ false → false ≡ placed r v n st
-    unfolding placed
+    pub by-known : k ≡ false → false ≡ rightlyPlaced r v n st
+    unfolding rightlyPlaced
     by-known f = rw (← eh, ← ek, f)
 
     module _ (pk : k ≡ true) {u : ℕ} (eu : u ≡ unusedOf h r) where
-      pub by-clear : (u + r .spare ≡ 0 → ⊥) → false ≡ placed r v n st
-      unfolding placed
+      pub by-clear : (u + r .spare ≡ 0 → ⊥) → false ≡ rightlyPlaced r v n st
+      unfolding rightlyPlaced
       by-clear f = rw (← eh, ← ek, pk, ← eu, ne-eqb (u + r .spare) 0 f)
 
       module _ (pu : u + r .spare ≡ 0) {o : Bool} (eo : o ≡ inOrder st n (operandsOf h r)) where
-        pub by-order : o ≡ false → false ≡ placed r v n st
-        unfolding placed
+        pub by-order : o ≡ false → false ≡ rightlyPlaced r v n st
+        unfolding rightlyPlaced
         by-order f = rw (← eh, ← ek, pk, ← eu, eq-eqb (u + r .spare) 0 pu, ← eo, f)
 
-        pub by-list : o ≡ true → {l : Bool} → l ≡ isListed h r v → l ≡ placed r v n st
-        unfolding placed
+        pub by-list : o ≡ true → {l : Bool} → l ≡ isListed h r v → l ≡ rightlyPlaced r v n st
+        unfolding rightlyPlaced
         by-list po el = rw (← eh, ← ek, pk, ← eu, eq-eqb (u + r .spare) 0 pu, ← eo, po) el
 
 module _ {f : ℕ → Record} {v n : ℕ} where
-  pub decides-placed : Decides (placed (f n) v n (startAt f)) (Placed f v n)
+  pub decides-placed : Decides (rightlyPlaced (f n) v n (startAt f)) (Placed f v n)
   decides-placed =
       decides-as (decides-keeps (f n) v n (startAt f))
       (λ k. record { known = k .known; clear = k .clear; ordered = k .ordered; listed = k .listed })
       (λ p. record { known = p .known; clear = p .clear; ordered = p .ordered; listed = p .listed })
 
-  pub placed-of : placed (f n) v n (startAt f) ≡ true → Placed f v n
+  pub placed-of : rightlyPlaced (f n) v n (startAt f) ≡ true → Placed f v n
   placed-of = decides-placed .0
 
-  pub placed-true : Placed f v n → placed (f n) v n (startAt f) ≡ true
+  pub placed-true : Placed f v n → rightlyPlaced (f n) v n (startAt f) ≡ true
   placed-true = decides-placed .1
 
 -- ---- only the starts below n are looked at
@@ -106,45 +104,21 @@ module _ {n : ℕ} {st st′ : ℕ → ℕ} (same : (j : ℕ) → j < n → st j
           rw q (more h ∙ ap (λ (i : ℕ). inOrder st′ i xs) (same x h))
       by false q more = rw q
 
-  pub agrees : (r : Record) (v : ℕ) → placed r v n st ≡ placed r v n st′
-  unfolding placed
+  pub agrees : (r : Record) (v : ℕ) → rightlyPlaced r v n st ≡ rightlyPlaced r v n st′
+  unfolding rightlyPlaced
   agrees r v = rw (order-agrees (operandsOf (shapeAt r) r) n (omega arith))
 
--- ---- what the test bounds
--- the numbers that a record holds, where its operands are below 248 and its variable below v
-pub record Bounded (r : Record) (v : ℕ) : Type 0 where
-  pub a : r .a < mostNodes
-  pub b : r .b < mostNodes
-  pub c : r .c < mostNodes
-  pub variable : r .kind ≡ Variable → r .a < v
-
+-- ---- operands stand before their node
 module _ {n : ℕ} {st : ℕ → ℕ} (low : (j : ℕ) → j < n → st j ≤ j) where
-  ordered-before : (xs : List ℕ) (e : ℕ) → e ≤ n → Ordered st e xs → Before n xs
+  pub ordered-before : (xs : List ℕ) (e : ℕ) → e ≤ n → Ordered st e xs → Before n xs
   ordered-before [] e l o = tt
   ordered-before (x ∷ xs) e l o =
       let h : x < n = omega arith in
       (h, ordered-before xs (st x) (omega (arith, low x h)) (o .1))
 
-  -- a node's operands stand before it
-  pub lower : (r : Record) (v : ℕ) → placed r v n st ≡ true → Before n (operandsOf (shapeAt r) r)
-  lower r v e = ordered-before (operandsOf (shapeAt r) r) n (omega arith) (decides-keeps r v n st .0 e .ordered)
-
-  -- unused fields are zero
-  fields : (r : Record) (v : ℕ) (h : Shape) → n ≤ mostNodes → v ≤ mostVariables → Known h → unusedOf h r + r .spare ≡ 0 → Before n (operandsOf h r) → VariableBelow h r v
-      → (r .a < mostNodes) × (r .b < mostNodes) × (r .c < mostNodes)
-  fields r v Wrong l m k z b w = absurd k
-  fields r v Bare l m k z b w = omega arith
-  fields r v Valued l m k z b w = omega arith
-  fields r v Named l m k z b w = omega arith
-  fields r v (One s) l m k z b w = omega arith
-  fields r v (Two s t) l m k z b w = omega arith
-  fields r v (Three s t u) l m k z b w = omega arith
-
-  pub lower-than : {r : Record} {v : ℕ} → n ≤ mostNodes → v ≤ mostVariables → placed r v n st ≡ true → Bounded r v
-  lower-than {r} {v} l m e =
-      let k = decides-keeps r v n st .0 e in
-      let w = fields r v (shapeAt r) l m (k .known) (k .clear) (lower r v e) (k .listed) in
-      record { a = w .0; b = w .1; c = w .2; variable = λ q. rw q at (k .listed) }
+  -- the first operand, by the shape that the code has
+  pub first-before : (r : Record) {h : Shape} → h ≡ shapeAt r → Ordered st n (operandsOf (shapeAt r) r) → Before n (operandsOf h r)
+  first-before r e o = rw e (ordered-before (operandsOf (shapeAt r) r) n (omega arith) o)
 
 -- ---- over a table, where the starts below n are known and 0 stands for the rest
 module _ (f : ℕ → Record) where
@@ -164,5 +138,5 @@ module _ (f : ℕ → Record) where
     known-start j l = ap (λ (g : ℕ → ℕ). g j) known ∙ below-is 0 (startStep f) n j l
 
     -- the test of node n
-    pub known-placed : (v : ℕ) → placed (f n) v n st ≡ placed (f n) v n (startAt f)
+    pub known-placed : (v : ℕ) → rightlyPlaced (f n) v n st ≡ rightlyPlaced (f n) v n (startAt f)
     known-placed v = agrees known-start (λ j l. known-low j) (f n) v

@@ -1,4 +1,4 @@
--- What a node's record must keep (document 01, "Order" and refusal 6), as a test: the same as `Placed` says in propositions.
+-- Refusal 6 at a node as a test, for the cascade and the code: `Placed` of layout says the same in propositions.
 use Prim.Native.Nat.{ℕ, _+_, _≤_, _<_}
 use mathlib.Core.Bool.{Bool, true, false, _&&_}
 use mathlib.Core.List.{List, [], _∷_}
@@ -36,8 +36,8 @@ isListed (Two s t) r v = true
 isListed (Three s t u) r v = true
 
 -- the record r of node n keeps all of it, where st has the subtrees' starts
-unfoldable pub placed : Record → ℕ → ℕ → (ℕ → ℕ) → Bool
-placed r v n st = isKnown (shapeAt r) && eqb (unusedOf (shapeAt r) r + r .spare) 0 && inOrder st n (operandsOf (shapeAt r) r) && isListed (shapeAt r) r v
+unfoldable pub rightlyPlaced : Record → ℕ → ℕ → (ℕ → ℕ) → Bool
+rightlyPlaced r v n st = isKnown (shapeAt r) && eqb (unusedOf (shapeAt r) r + r .spare) 0 && inOrder st n (operandsOf (shapeAt r) r) && isListed (shapeAt r) r v
 
 -- each subtree of the nodes before n starts at or before its root
 abbrev pub Falling : ℕ → List ℕ → Type 0

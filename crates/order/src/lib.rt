@@ -7,12 +7,13 @@ ghost use lib.Dec.{eqb};
 ghost use Rattle.lists.specs.Places.{at};
 ghost use Rattle.numbers.specs.Bytes.{wordLimit};
 ghost use Rattle.layout.specs.Limits.{mostNodes};
-ghost use Rattle.layout.specs.Starts.{shapeAt, operandsOf, startBy};
+ghost use Rattle.layout.specs.Starts.{shapeAt, operandsOf, startBy, Ordered};
 ghost use Rattle.layout.specs.LaidOut.{unusedOf};
-ghost use Rattle.order.specs.Order.{isKnown, inOrder, isListed, placed, Falling};
+ghost use Rattle.order.specs.Order.{isKnown, inOrder, isListed, rightlyPlaced, Falling};
 use kinds::Record;
 use kinds::Shape;
 use layout::MOST_NODES;
+use numbers::NodeNumber;
 
 fn known(h: Shape) -> bool
     ensures { λ q. ⌜ q ≡ isKnown h ⌝ }
@@ -64,38 +65,31 @@ fn listed(h: Shape, r: Record, v: usize) -> bool
 }
 
 // Whether x is the node just before e.
-fn precedes(x: u16, e: usize) -> bool
-    ensures { λ q. ⌜ q ≡ eqb (x + 1) e ⌝ }
+fn precedes(x: NodeNumber, e: NodeNumber) -> bool
+    ensures { λ q. ⌜ q ≡ eqb (x .0 + 1) (e .0) ⌝ }
 {
-    x as usize + 1 == e
-}
-
-// An element of an array is known to have 16 bits once it is passed on.
-fn index(x: u16) -> usize
-    ensures { λ q. ⌜ q ≡ x ⌝ }
-{
-    x as usize
+    x.0 as usize + 1 == e.0 as usize
 }
 
 // Where the subtree of node x starts.
-fn start_of(x: u16, starts: &[u16; MOST_NODES]) -> usize
-    requires { ⌜ x < mostNodes ⌝ }
-    ensures { λ q. ⌜ q ≡ at 0 (now (starts .entry)) x ⌝ }
+pub fn start_of(x: NodeNumber, starts: &[u16; MOST_NODES]) -> NodeNumber
+    requires { ⌜ x .0 < mostNodes ⌝ }
+    ensures { λ q. ⌜ q .0 ≡ at 0 (now (starts .entry)) (x .0) ⌝ }
 {
-    let i = x as usize;
-    index(starts[i])
+    let i = x.0 as usize;
+    NodeNumber(starts[i])
 }
 
-fn one_ordered(a: u16, e: usize) -> bool
-    ensures { λ q. ⌜ q ≡ eqb (a + 1) e && true ⌝ }
+fn one_ordered(a: NodeNumber, e: NodeNumber) -> bool
+    ensures { λ q. ⌜ q ≡ eqb (a .0 + 1) (e .0) && true ⌝ }
 {
     precedes(a, e)
 }
 
 // Whether b is the node just before e, and a the one just before b's subtree.
-fn two_ordered(a: u16, b: u16, e: usize, starts: &[u16; MOST_NODES]) -> bool
-    requires { ⌜ e ≤ mostNodes ⌝ }
-    ensures { λ q. ⌜ q ≡ inOrder (at 0 (now (starts .entry))) e (b ∷ a ∷ []) ⌝ }
+fn two_ordered(a: NodeNumber, b: NodeNumber, e: NodeNumber, starts: &[u16; MOST_NODES]) -> bool
+    requires { ⌜ e .0 ≤ mostNodes ⌝ }
+    ensures { λ q. ⌜ q ≡ inOrder (at 0 (now (starts .entry))) (e .0) (b .0 ∷ a .0 ∷ []) ⌝ }
 {
     if !precedes(b, e) {
         return false;
@@ -103,9 +97,15 @@ fn two_ordered(a: u16, b: u16, e: usize, starts: &[u16; MOST_NODES]) -> bool
     one_ordered(a, start_of(b, starts))
 }
 
-fn three_ordered(a: u16, b: u16, c: u16, e: usize, starts: &[u16; MOST_NODES]) -> bool
-    requires { ⌜ (e ≤ mostNodes) × Falling e (now starts) ⌝ }
-    ensures { λ q. ⌜ q ≡ inOrder (at 0 (now (starts .entry))) e (c ∷ b ∷ a ∷ []) ⌝ }
+fn three_ordered(
+    a: NodeNumber,
+    b: NodeNumber,
+    c: NodeNumber,
+    e: NodeNumber,
+    starts: &[u16; MOST_NODES],
+) -> bool
+    requires { ⌜ (e .0 ≤ mostNodes) × Falling (e .0) (now starts) ⌝ }
+    ensures { λ q. ⌜ q ≡ inOrder (at 0 (now (starts .entry))) (e .0) (c .0 ∷ b .0 ∷ a .0 ∷ []) ⌝ }
 {
     if !precedes(c, e) {
         return false;
@@ -114,28 +114,27 @@ fn three_ordered(a: u16, b: u16, c: u16, e: usize, starts: &[u16; MOST_NODES]) -
 }
 
 // Whether the operands of node n stand where the order puts them.
-fn ordered(h: Shape, r: Record, n: usize, starts: &[u16; MOST_NODES]) -> bool
-    requires { ⌜ (n ≤ mostNodes) × Falling n (now starts) ⌝ }
-    ensures { λ q. ⌜ q ≡ inOrder (at 0 (now (starts .entry))) n (operandsOf h r) ⌝ }
+fn ordered(h: Shape, r: Record, n: NodeNumber, starts: &[u16; MOST_NODES]) -> bool
+    requires { ⌜ (n .0 ≤ mostNodes) × Falling (n .0) (now starts) ⌝ }
+    ensures { λ q. ⌜ q ≡ inOrder (at 0 (now (starts .entry))) (n .0) (operandsOf h r) ⌝ }
 {
-    let a = r.a;
-    let b = r.b;
-    let c = r.c;
     match h {
         Shape::Wrong => true,
         Shape::Bare => true,
         Shape::Valued => true,
         Shape::Named => true,
-        Shape::One(_) => one_ordered(a, n),
-        Shape::Two(_, _) => two_ordered(a, b, n, starts),
-        Shape::Three(_, _, _) => three_ordered(a, b, c, n, starts),
+        Shape::One(_) => one_ordered(NodeNumber(r.a), n),
+        Shape::Two(_, _) => two_ordered(NodeNumber(r.a), NodeNumber(r.b), n, starts),
+        Shape::Three(_, _, _) => {
+            three_ordered(NodeNumber(r.a), NodeNumber(r.b), NodeNumber(r.c), n, starts)
+        }
     }
 }
 
 // Whether the record of node n keeps all that refusal 6 asks.
-pub fn right_place(r: Record, v: usize, n: usize, starts: &[u16; MOST_NODES]) -> bool
-    requires { ⌜ (n ≤ mostNodes) × Falling n (now starts) ⌝ }
-    ensures { λ q. ⌜ q ≡ placed r v n (at 0 (now (starts .entry))) ⌝ }
+pub fn right_place(r: Record, v: usize, n: NodeNumber, starts: &[u16; MOST_NODES]) -> bool
+    requires { ⌜ (n .0 ≤ mostNodes) × Falling (n .0) (now starts) ⌝ }
+    ensures { λ q. ⌜ q ≡ rightlyPlaced r v (n .0) (at 0 (now (starts .entry))) ⌝ }
 {
     let kind = r.kind;
     let h = kinds::shape_of(kind);
@@ -152,21 +151,20 @@ pub fn right_place(r: Record, v: usize, n: usize, starts: &[u16; MOST_NODES]) ->
     listed(h, r, v)
 }
 
-// Where the subtree of node n starts.
-pub fn start(r: Record, n: u16, starts: &[u16; MOST_NODES]) -> u16
-    requires { ⌜ r .a < mostNodes ⌝ }
-    ensures { λ q. ⌜ q ≡ startBy (shapeAt r) r n (at 0 (now (starts .entry))) ⌝ }
+// Where the subtree of node n starts, its operands being in order.
+pub fn start(r: Record, n: NodeNumber, starts: &[u16; MOST_NODES]) -> NodeNumber
+    requires { ⌜ (n .0 ≤ mostNodes) × Falling (n .0) (now starts) × Ordered (at 0 (now starts)) (n .0) (operandsOf (shapeAt r) r) ⌝ }
+    ensures { λ q. ⌜ q .0 ≡ startBy (shapeAt r) r (n .0) (at 0 (now (starts .entry))) ⌝ }
 {
     let kind = r.kind;
-    let a = r.a as usize;
     let h = kinds::shape_of(kind);
     match h {
         Shape::Wrong => n,
         Shape::Bare => n,
         Shape::Valued => n,
         Shape::Named => n,
-        Shape::One(_) => starts[a],
-        Shape::Two(_, _) => starts[a],
-        Shape::Three(_, _, _) => starts[a],
+        Shape::One(_) => start_of(NodeNumber(r.a), starts),
+        Shape::Two(_, _) => start_of(NodeNumber(r.a), starts),
+        Shape::Three(_, _, _) => start_of(NodeNumber(r.a), starts),
     }
 }

@@ -18,17 +18,18 @@ use Rattle.kinds.specs.declared.Shape.{Shape}
 use Rattle.kinds.specs.declared.Shape.the-variants.{Wrong, Bare, Valued, Named, One, Two, Three}
 use Rattle.layout.specs.Limits.{nodeBytes, spareStart, nodePlace}
 use Rattle.layout.specs.Starts.{fieldsOf, AllZero, UnusedZero, shapeAt, sortAt, operandsOf, sortsOf, startAt, Sorted, Typed}
-use Rattle.layout.specs.Parts.{nodeCount, variableCount, recordIn, table}
+use Rattle.layout.specs.Parts.{nodeCount, goalAt, variableCount, recordIn, table}
 use Rattle.layout.specs.LaidOut.{total, unusedOf, Placed}
 use Rattle.refusals.specs.Rows.{row, _then_, eachOf, Exactly}
 use Rattle.refusals.proofs.RowLaws.{exactly-row, exactly-unless, exactly-then, exactly-each}
-use Rattle.order.specs.Order.{isKnown, inOrder, isListed, placed}
+use Rattle.order.specs.Order.{isKnown, inOrder, isListed, rightlyPlaced}
 use Rattle.order.proofs.OrderLaws.{decides-known, decides-ordered, decides-listed, placed-of}
 use Rattle.findings.specs.declared.Finding.{Finding}
 use Rattle.findings.specs.declared.Finding.the-variants.{Truth, Integer}
-use Rattle.findings.specs.Findings.{fitting}
+use Rattle.findings.specs.Findings.{findingAt, findingFits}
+use Rattle.findings.specs.Steps.{areSorted}
 use Rattle.findings.proofs.FindingLaws.{decides-same}
-use Rattle.nodes.specs.Nodes.{findingAt, areSorted, typed, nodeRefusal, goalAt, nodes}
+use Rattle.nodes.specs.Nodes.{typed, nodeRefusal, nodes}
 use Rattle.reading.specs.Rows.{SpareZero, Row6, unknown, unused, spare, misplaced, unlisted, Row7, Row8, GoalSubtree, GoalType}
 
 -- ---- unused fields and bytes are zero exactly where their sum is
@@ -72,11 +73,11 @@ module _ (s : List ℕ) where
     r = table s n
 
     abbrev placedHere : Bool
-    placedHere = placed r (variableCount s) n (startAt (table s))
+    placedHere = rightlyPlaced r (variableCount s) n (startAt (table s))
 
     -- ---- 6
     row6-of : placedHere ≡ false → Row6 s n
-    unfolding placed
+    unfolding rightlyPlaced
     row6-of e =
         go (isKnown (shapeAt r)) (eqb (unusedOf (shapeAt r) r + r .spare) 0) (inOrder (startAt (table s)) n (operandsOf (shapeAt r) r)) (isListed (shapeAt r) r (variableCount s)) refl refl refl refl e
       where
@@ -105,21 +106,21 @@ module _ (s : List ℕ) where
     row6-not p (unlisted h) = h (p .listed)
 
     -- ---- 8
-    row8-of : fitting (findingAt s n) ≡ false → Row8 s n
+    row8-of : findingFits (findingAt s n) ≡ false → Row8 s n
     row8-of e = go (findingAt s n) refl e
       where
-        go : (x : Finding) → findingAt s n ≡ x → fitting x ≡ false → Row8 s n
+        go : (x : Finding) → findingAt s n ≡ x → findingFits x ≡ false → Row8 s n
         go Truth q d = absurd (true≢false d)
         go (Integer a) q d = record { range = a; found = q; leaves = narrow-false d }
 
-    row8-not : fitting (findingAt s n) ≡ true → Row8 s n → ⊥
-    row8-not e h = h .leaves (narrow-of (sym (ap fitting (h .found)) ∙ e))
+    row8-not : findingFits (findingAt s n) ≡ true → Row8 s n → ⊥
+    row8-not e h = h .leaves (narrow-of (sym (ap findingFits (h .found)) ∙ e))
 
     node-rows : Exactly (row 6 n (Row6 s n) then row 7 n (Row7 s n) then row 8 n (Row8 s n)) (nodeRefusal s n)
     unfolding nodeRefusal
     node-rows =
         exactly-then (exactly-row placedHere 6 n (λ e. row6-not (placed-of e)) row6-of)
-        (λ e. exactly-then (exactly-unless 7 n (typed-decided (table s) n)) (λ d. exactly-row (fitting (findingAt s n)) 8 n row8-not row8-of))
+        (λ e. exactly-then (exactly-unless 7 n (typed-decided (table s) n)) (λ d. exactly-row (findingFits (findingAt s n)) 8 n row8-not row8-of))
 
   -- ---- all nodes, then the goal
   pub nodes-rows : Exactly (eachOf (λ n. row 6 n (Row6 s n) then row 7 n (Row7 s n) then row 8 n (Row8 s n)) 0 (nodeCount s) then row 6 (goalAt s) (GoalSubtree s) then row 7 (goalAt s) (GoalType s)) (nodes s)

@@ -19,10 +19,9 @@ use Rattle.layout.specs.Parts.{nodeCount, table, ruleIn}
 use Rattle.layout.specs.Fold.{ofTree}
 use Rattle.layout.proofs.GoalLaws.{operand-as}
 use Rattle.findings.specs.declared.Finding.the-variants.{Integer}
-use Rattle.findings.specs.Findings.{sortOf, findingOf}
+use Rattle.findings.specs.Findings.{sortOf, findingOf, findingAt}
 use Rattle.findings.proofs.FindingLaws.{range-fits}
 use Rattle.findings.proofs.SoundFindings.{found-in}
-use Rattle.nodes.specs.Nodes.{findingAt}
 use Rattle.nodes.proofs.LoopLaws.{finding-sort}
 use Rattle.reading.specs.Cascade.{refusalOf}
 use Rattle.reading.proofs.RuleLaws.{accepted-sound, accepted-fits, finding-is}

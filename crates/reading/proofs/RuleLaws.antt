@@ -43,9 +43,9 @@ use Rattle.records.proofs.VariableLaws.{variables-none}
 use Rattle.records.proofs.NameLaws.{laid-out, rule-of}
 use Rattle.order.proofs.OrderLaws.{placed-of, placed-true}
 use Rattle.findings.specs.declared.Finding.the-variants.{Truth as found-truth}
-use Rattle.findings.specs.Findings.{findingOf, Fits}
+use Rattle.findings.specs.Findings.{findingOf, findingAt, FindingFits}
 use Rattle.findings.proofs.FindingLaws.{fits-of, fits-true, decides-same}
-use Rattle.nodes.specs.Nodes.{findingAt, nodeRefusal, nodes}
+use Rattle.nodes.specs.Nodes.{nodeRefusal, nodes}
 use Rattle.reading.specs.Cascade.{refusalOf, ruleOf}
 use Rattle.reading.specs.Lawful.{FitsIn, Lawful, Allowed}
 use Rattle.reading.proofs.NodeRows.{typed-decided}
@@ -82,7 +82,7 @@ module _ (s : List ℕ) where
   record NodeRight (n : ℕ) : Type 0 where
     placed : Placed (table s) (variableCount s) n
     typed : Typed (table s) n
-    fits : Fits (findingAt s n)
+    fits : FindingFits (findingAt s n)
 
   node-right : (n : ℕ) → nodeRefusal s n ≡ none → NodeRight n
   unfolding nodeRefusal
@@ -147,7 +147,7 @@ module _ (s : List ℕ) where
     pub accepted-sound : Sound (table s) (variableCount s) (nodeCount s)
     accepted-sound = sound (right-of-none s (passed e .header-passed) .some-node) (nodes-right (passed e .nodes-passed))
 
-    pub accepted-fits : (n : ℕ) → n < nodeCount s → Fits (findingAt s n)
+    pub accepted-fits : (n : ℕ) → n < nodeCount s → FindingFits (findingAt s n)
     accepted-fits n l = nodes-right (passed e .nodes-passed) .each n l .fits
 
     pub accepted-laid-out : Bytes s → LaidOut s

@@ -10,11 +10,11 @@ use Rattle.kinds.specs.Rows.{PartOf}
 use Rattle.layout.specs.Fold.{ofTree}
 use Rattle.layout.specs.WellFormed.{WellFormed}
 use Rattle.records.specs.Names.{Name}
-use Rattle.findings.specs.Findings.{findingOf, Fits}
+use Rattle.findings.specs.Findings.{findingOf, FindingFits}
 
 -- what a tree is found to be lies in -32,768..32,767, where it is an integer
 abbrev pub FitsIn : Rule → (s : Sort) → Tree s → Type 0
-FitsIn r s t = Fits (ofTree (findingOf (domainOf r)) t)
+FitsIn r s t = FindingFits (ofTree (findingOf (domainOf r)) t)
 
 pub record Lawful (r : Rule) : Type 0 where
   pub names : (i : ℕ) → i < length (r .variables) → Name (variableOf r i .name)

@@ -12,11 +12,11 @@ use Rattle.kinds.specs.Rows.{Known}
 use Rattle.layout.specs.Limits.{blockBytes, mostVariables, nodeBytes, spareOffset, spareStart, mostNodes, blocksFor, mostBlocks, nodePlace}
 use Rattle.layout.specs.Checks.{checkOf, content, storedCheck}
 use Rattle.layout.specs.Starts.{shapeAt, sortAt, operandsOf, UnusedZero, VariableBelow, startAt, Ordered, Typed}
-use Rattle.layout.specs.Parts.{edition, nodeCount, variableCount, table}
+use Rattle.layout.specs.Parts.{edition, nodeCount, goalAt, variableCount, table}
 use Rattle.header.specs.MustBeZero.{MustBeZero}
 use Rattle.records.specs.Names.{VariableKept}
 use Rattle.findings.specs.declared.Finding.the-variants.{Integer}
-use Rattle.nodes.specs.Nodes.{findingAt, goalAt}
+use Rattle.findings.specs.Findings.{findingAt}
 
 -- 1: no byte at all, a block left incomplete, or more than nine blocks
 pub data Row1 (s : List ℕ) : Type 0 where

@@ -7,7 +7,7 @@ use Prim.Native.Nat.{ℕ, _≤_}
 use native.Mathlib.Omega.{arith}
 use borrow.Author.Tests.{ne-eqb}
 use Rattle.lists.specs.Ascii.{ascii}
-use Rattle.lists.specs.Names.{sameBytes, listed}
+use Rattle.lists.specs.Names.{sameBytes}
 use Rattle.smtlib.specs.Tokens.{symbol, reserved, numeral}
 use Rattle.smtlib.specs.Sexps.{Sexp, atom, nil, cons}
 use Rattle.smtlib.specs.Values.{Sort, bool, bitVec}

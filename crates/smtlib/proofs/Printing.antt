@@ -1,13 +1,13 @@
 -- S-expressions printed with single spaces are read back as they were, and so are lists of them with a line feed behind each. Assumes nothing.
 use mathlib.Core.Path.{_≡_, refl, sym, ap, _∙_}
 use mathlib.Core.Bool.{true}
-use mathlib.Core.List.{List, [], _∷_, _++_, map, append-assoc, append-nil}
+use mathlib.Core.List.{List, [], _∷_, _++_, append-assoc, append-nil}
 use mathlib.Core.Option.{some}
 use Prim.Native.Nat.{ℕ}
 use native.Mathlib.Omega.{arith}
 use Rattle.lists.specs.Ascii.{ascii}
 use Rattle.smtlib.specs.Characters.{every, symbolChar, wordChar, letterChar, digitChar, whiteSpace, classOf}
-use Rattle.smtlib.specs.Tokens.{Atom, symbol, reserved, numeral, hexadecimal, binary, keyword, Token, opening, closing, single, outside, tokenOf, step, tokens}
+use Rattle.smtlib.specs.Tokens.{Atom, Token, opening, closing, single, outside, tokenOf, step, tokens}
 use Rattle.smtlib.specs.Sexps.{Sexp, atom, nil, cons, snoc, parse, sexpsOf}
 use Rattle.smtlib.specs.Spelling.{spelling, Spelled}
 use Rattle.smtlib.proofs.Reading.{Ends, word-read}

@@ -1,5 +1,5 @@
 -- The script of an accepted sheet from its lines, and how long it is. Assumes nothing.
-use Prim.Native.Nat.{ℕ, zero, suc, _+_, _-_, _≤_}
+use Prim.Native.Nat.{ℕ, zero, suc, _+_, _≤_}
 use mathlib.Core.Path.{_≡_, refl, sym, ap, _∙_}
 use mathlib.Core.List.{List, [], _∷_, _++_, map, append-assoc, append-nil}
 use mathlib.Core.Option.{none}
@@ -15,7 +15,7 @@ use Rattle.meaning.specs.Tree.{Tree, neg}
 use Rattle.meaning.specs.Rule.{Variable}
 use Rattle.layout.specs.Limits.{blockBytes}
 use Rattle.layout.specs.Fold.{ofTree}
-use Rattle.layout.specs.Parts.{nodeCount, variableCount, variableAt, table, ruleIn}
+use Rattle.layout.specs.Parts.{goalAt, variableCount, variableAt, table, ruleIn}
 use Rattle.layout.proofs.FoldLaws.{goal-found}
 use Rattle.header.proofs.HeaderLaws.{block-inside}
 use Rattle.reading.specs.Cascade.{refusalOf}
@@ -32,7 +32,7 @@ use Rattle.writer.specs.Ending.{setLogic, goalStart, goalEnd, goalLines,
 use Rattle.writer.specs.Writes.{enoughRoom}
 
 -- ---- the lines of the goal
-pub goal-from : (s : List ℕ) {n : ℕ} → n ≡ nodeCount s - 1 → goalStart ++ (ascii " " ++ textAt s n) ++ goalEnd ≡ goalLines s
+pub goal-from : (s : List ℕ) {n : ℕ} → n ≡ goalAt s → goalStart ++ (ascii " " ++ textAt s n) ++ goalEnd ≡ goalLines s
 unfolding goalLines
 goal-from s e = rw e
 
@@ -70,7 +70,7 @@ flat-goal : (a o w b t e n z : List ℕ) → a ++ (o ++ (w ++ (b ++ (t ++ e))) +
 flat-goal a o w b t e n z = simp append-assoc
 
 module _ (s : List ℕ) (e : refusalOf s ≡ none) where
-  goal-text : text literal symbolText (ruleIn s .goal) ≡ textAt s (nodeCount s - 1)
+  goal-text : text literal symbolText (ruleIn s .goal) ≡ textAt s (goalAt s)
   unfolding textAt
   goal-text = sym (goal-found (textStep literal symbolText) [] (table s) (accepted-sound s e))
 
@@ -93,7 +93,7 @@ module _ (s : List ℕ) (e : refusalOf s ≡ none) where
   unfolding script
   script-is = assembled (declared s) (claimed s) _ (joinedBelow (rangeLine s) (variableCount s)) (negated s) setLogic declarations-are ranges-are refl goal-is
 
-  pub goal-length : length (goalLines s) ≡ goalBytes + length (textAt s (nodeCount s - 1))
+  pub goal-length : length (goalLines s) ≡ goalBytes + length (textAt s (goalAt s))
   unfolding goalLines
   goal-length = simp length-append (omega arith)
 
@@ -104,11 +104,11 @@ module _ (s : List ℕ) (e : refusalOf s ≡ none) where
     pub script-parts : length (script (ruleIn s)) ≡ length setLogic + length (joinedBelow declarationLine v) + length (joinedBelow (rangeLine s) v) + length (goalLines s)
     script-parts = ap length (sym script-from) ∙ simp length-append (omega arith)
 
-  pub script-length : {size : ℕ} → LinesSize (variableCount s) size → length (script (ruleIn s)) ≡ size + length (textAt s (nodeCount s - 1)) + frameBytes
+  pub script-length : {size : ℕ} → LinesSize (variableCount s) size → length (script (ruleIn s)) ≡ size + length (textAt s (goalAt s)) + frameBytes
   script-length l = omega (arith, script-parts refl, goal-length, l .of s)
 
   -- the goal's node
-  pub goal-ready : {n : ℕ} → n ≡ nodeCount s - 1 → AcceptedNode s n
+  pub goal-ready : {n : ℕ} → n ≡ goalAt s → AcceptedNode s n
   goal-ready g = record { accepted = e; below = omega (arith, accepted-counted s e .some-node) }
 
   -- the first block is there

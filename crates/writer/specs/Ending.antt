@@ -1,9 +1,9 @@
 -- The script's texts besides those of variables and of the goal, and its last lines: what the functions of this crate write and count.
-use Prim.Native.Nat.{ℕ, _+_, _-_}
+use Prim.Native.Nat.{ℕ, _+_}
 use mathlib.Core.List.{List, _++_}
 use lib.ListN.{length}
 use Rattle.lists.specs.Ascii.{ascii}
-use Rattle.layout.specs.Parts.{nodeCount}
+use Rattle.layout.specs.Parts.{goalAt}
 use Rattle.terms.specs.Texts.{textAt}
 
 -- the first line, and what stands before and behind the goal's text
@@ -18,7 +18,7 @@ goalEnd = ascii "))\n(check-sat)\n(exit)\n"
 
 -- the negated goal's line, and the two commands behind it
 unfoldable pub goalLines : List ℕ → List ℕ
-goalLines s = goalStart ++ (ascii " " ++ textAt s (nodeCount s - 1)) ++ goalEnd
+goalLines s = goalStart ++ (ascii " " ++ textAt s (goalAt s)) ++ goalEnd
 
 -- how many bytes all this is, but for the goal's text
 abbrev pub goalBytes : ℕ

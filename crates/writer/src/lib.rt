@@ -1,9 +1,9 @@
 // The script of a sheet's rule, written into lent room.
 ghost use mathlib.Core.Path.{_≡_};
 ghost use mathlib.Core.Option.{none};
-ghost use Prim.Native.Nat.{_+_, _-_, _≤_};
+ghost use Prim.Native.Nat.{_+_, _≤_};
 ghost use lib.ListN.{length};
-ghost use Rattle.layout.specs.Parts.{nodeCount, ruleIn};
+ghost use Rattle.layout.specs.Parts.{goalAt, ruleIn};
 ghost use Rattle.reading.specs.Cascade.{refusalOf};
 ghost use Rattle.wording.specs.Script.{script};
 ghost use Rattle.room.specs.Room.{Wrote};
@@ -36,7 +36,7 @@ pub enum Written {
 // The last node.
 fn goal_node(sheet: &[u8]) -> NodeNumber
     requires { ⌜ refusalOf (now sheet) ≡ none ⌝ }
-    ensures { λ r. ⌜ r .0 ≡ nodeCount (now (sheet .entry)) - 1 ⌝ }
+    ensures { λ r. ⌜ r .0 ≡ goalAt (now (sheet .entry)) ⌝ }
 {
     NodeNumber((header::node_count(sheet) - 1) as u16)
 }

@@ -14,4 +14,4 @@ returns-3 : tie.Need-returns-3
 returns-3 c = rw (eq-eqb _ 0 (c .before .before .if1 .left), c .enum-told .given .1)
 
 pub read-goal-spec : {M : Type 1} → statement M
-read-goal-spec = tie.close (tie.spec returns (λ c. search needs) (λ c. search needs) returns-2 returns-3)
+read-goal-spec = tie.close (tie.spec (λ c. search needs) returns (λ c. search needs) (λ c. search needs) returns-2 returns-3)

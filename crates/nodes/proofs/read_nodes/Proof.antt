@@ -5,7 +5,7 @@ use native.Mathlib.Omega.{arith}
 use borrow.Author.Needs.{needs}
 use borrow.Author.Tests.{not-true, not-false}
 use Rattle.header.proofs.HeaderLaws.{block-inside}
-use Rattle.nodes.proofs.LoopLaws.{Going, begin, inside, falling, misplaced, bounded, found-ready, refused, turn, finish}
+use Rattle.nodes.proofs.LoopLaws.{Going, begin, inside, falling, misplaced, start-ready, step-ready, good-fits, refused, turn, finish}
 use Rattle.nodes.proofs.read_nodes.Statement.{statement}
 use Rattle.nodes.proofs.read_nodes.Tie as tie
 
@@ -24,80 +24,88 @@ variable-count-requires c κs = block-inside (c .before .before .pre)
 loop-holds : tie.Need-loop-holds Inv-loop μ-loop
 loop-holds c = begin (c .before .before .before .pre) (c .before .node-count .ensures) (c .variable-count .ensures)
 
-cast-node : tie.Need-cast-node Inv-loop μ-loop
-cast-node c = omega (arith, c .before .loop .inv .counted .most, c .before .loop .inv .nodes-are)
+cast-t15 : tie.Need-cast-t15 Inv-loop μ-loop
+cast-t15 c = omega (arith, c .before .loop .inv .counted .most, c .before .loop .inv .nodes-are)
 
 record-at-requires : tie.Need-record-at-requires Inv-loop μ-loop
 record-at-requires c κs = inside (c .before .loop .inv) (c .loop-test .taken)
 
 right-place-requires : tie.Need-right-place-requires Inv-loop μ-loop
-right-place-requires c κs = (omega (arith, c .before .before .before .loop .inv .counted .most, c .before .before .before .loop .inv .nodes-are), falling (c .before .before .before .loop .inv))
+right-place-requires c κs =
+    let g = c .before .before .before .loop .inv in
+    (omega (arith, g .counted .most, g .nodes-are), falling g)
 
 returns : tie.Need-returns Inv-loop μ-loop
 returns c = misplaced (c .before .before .before .before .before .loop .inv) (c .before .before .before .before .loop-test .taken) (c .before .before .before .record-at .ensures) (c .before .right-place .ensures) (not-true _ (c .if1 .taken))
 
-mul-found : tie.Need-mul-found Inv-loop μ-loop
-mul-found c = omega (arith, bounded (c .before .before .before .before .before .before .before .before .loop .inv) (c .before .before .before .before .before .before .before .loop-test .taken) (c .before .before .before .before .before .before .record-at .ensures) (c .before .before .before .before .right-place .ensures) (not-false _ (c .before .before .before .if1 .left)) .a)
-
-array-copy-out-found : tie.Need-array-copy-out-found Inv-loop μ-loop
-array-copy-out-found c = omega (arith, bounded (c .before .before .before .before .before .before .before .before .loop .inv) (c .before .before .before .before .before .before .before .loop-test .taken) (c .before .before .before .before .before .before .record-at .ensures) (c .before .before .before .before .right-place .ensures) (not-false _ (c .before .before .before .if1 .left)) .a)
-
-mul-found-2 : tie.Need-mul-found-2 Inv-loop μ-loop
-mul-found-2 c = omega (arith, bounded (c .before .before .before .before .before .before .before .before .before .loop .inv) (c .before .before .before .before .before .before .before .before .loop-test .taken) (c .before .before .before .before .before .before .before .record-at .ensures) (c .before .before .before .before .before .right-place .ensures) (not-false _ (c .before .before .before .before .if1 .left)) .b)
-
-array-copy-out-found-2 : tie.Need-array-copy-out-found-2 Inv-loop μ-loop
-array-copy-out-found-2 c = omega (arith, bounded (c .before .before .before .before .before .before .before .before .before .loop .inv) (c .before .before .before .before .before .before .before .before .loop-test .taken) (c .before .before .before .before .before .before .before .record-at .ensures) (c .before .before .before .before .before .right-place .ensures) (not-false _ (c .before .before .before .before .if1 .left)) .b)
-
-mul-found-3 : tie.Need-mul-found-3 Inv-loop μ-loop
-mul-found-3 c = omega (arith, bounded (c .before .before .before .before .before .before .before .before .before .before .loop .inv) (c .before .before .before .before .before .before .before .before .before .loop-test .taken) (c .before .before .before .before .before .before .before .before .record-at .ensures) (c .before .before .before .before .before .before .right-place .ensures) (not-false _ (c .before .before .before .before .before .if1 .left)) .c)
-
-array-copy-out-found-3 : tie.Need-array-copy-out-found-3 Inv-loop μ-loop
-array-copy-out-found-3 c = omega (arith, bounded (c .before .before .before .before .before .before .before .before .before .before .loop .inv) (c .before .before .before .before .before .before .before .before .before .loop-test .taken) (c .before .before .before .before .before .before .before .before .record-at .ensures) (c .before .before .before .before .before .before .right-place .ensures) (not-false _ (c .before .before .before .before .before .if1 .left)) .c)
-
-found-requires : tie.Need-found-requires Inv-loop μ-loop
-found-requires c κs = found-ready (c .before .before .before .before .before .before .before .before .before .before .before .loop .inv) (c .before .before .before .before .before .before .before .before .before .before .loop-test .taken) (c .before .before .before .before .before .before .before .before .before .record-at .ensures) (c .before .before .before .before .before .before .before .right-place .ensures) (not-false _ (c .before .before .before .before .before .before .if1 .left))
+node-step-requires : tie.Need-node-step-requires Inv-loop μ-loop
+node-step-requires c κs =
+    let f = c .before in
+    step-ready (f .before .before .before .before .before .loop .inv) (f .before .before .before .before .loop-test .taken) (f .before .before .before .record-at .ensures) (f .before .right-place .ensures) (not-false _ (f .if1 .left))
 
 returns-2 : tie.Need-returns-2 Inv-loop μ-loop
-returns-2 c = refused (c .before .before .before .before .before .before .before .before .before .before .before .before .before .before .before .loop .inv) (c .before .before .before .before .before .before .before .before .before .before .before .before .before .before .loop-test .taken) (c .before .before .before .before .before .before .before .before .before .before .before .before .before .record-at .ensures) (c .before .before .before .before .before .before .before .before .before .before .before .right-place .ensures) (not-false _ (c .before .before .before .before .before .before .before .before .before .before .if1 .left)) (c .before .before .before .found .ensures) (c .before .step .given .1)
+returns-2 c =
+    let f = c .before .before .before .before .before in
+    refused (f .before .before .before .before .before .loop .inv) (f .before .before .before .before .loop-test .taken) (f .before .before .before .record-at .ensures) (f .before .right-place .ensures) (not-false _ (f .if1 .left)) (c .before .before .before .node-step .ensures) (c .before .step .given .1)
 
 start-requires : tie.Need-start-requires Inv-loop μ-loop
-start-requires c κs = bounded (c .before .before .before .before .before .before .before .before .before .before .before .before .before .before .before .before .loop .inv) (c .before .before .before .before .before .before .before .before .before .before .before .before .before .before .before .loop-test .taken) (c .before .before .before .before .before .before .before .before .before .before .before .before .before .before .record-at .ensures) (c .before .before .before .before .before .before .before .before .before .before .before .before .right-place .ensures) (not-false _ (c .before .before .before .before .before .before .before .before .before .before .before .if1 .left)) .a
+start-requires c κs =
+    let f = c .before .before .before .before .before .before in
+    start-ready (f .before .before .before .before .before .loop .inv) (f .before .before .before .before .loop-test .taken) (f .before .before .before .record-at .ensures) (f .before .right-place .ensures) (not-false _ (f .if1 .left))
 
 mul-starts : tie.Need-mul-starts Inv-loop μ-loop
-mul-starts c = omega (arith, c .before .before .before .before .before .before .before .before .before .before .before .before .before .before .before .before .before .loop .inv .counted .most, c .before .before .before .before .before .before .before .before .before .before .before .before .before .before .before .before .before .loop .inv .nodes-are, c .before .before .before .before .before .before .before .before .before .before .before .before .before .before .before .before .before .loop .inv .starts-size, c .before .before .before .before .before .before .before .before .before .before .before .before .before .before .before .before .before .loop .inv .findings-size)
+mul-starts c =
+    let g = c .before .before .before .before .before .before .before .before .before .before .before .before .loop .inv in
+    omega (arith, g .counted .most, g .nodes-are, g .starts-size, g .findings-size)
 
 array-write-starts : tie.Need-array-write-starts Inv-loop μ-loop
-array-write-starts c = omega (arith, c .before .before .before .before .before .before .before .before .before .before .before .before .before .before .before .before .before .loop .inv .counted .most, c .before .before .before .before .before .before .before .before .before .before .before .before .before .before .before .before .before .loop .inv .nodes-are, c .before .before .before .before .before .before .before .before .before .before .before .before .before .before .before .before .before .loop .inv .starts-size, c .before .before .before .before .before .before .before .before .before .before .before .before .before .before .before .before .before .loop .inv .findings-size)
+array-write-starts c =
+    let g = c .before .before .before .before .before .before .before .before .before .before .before .before .loop .inv in
+    omega (arith, g .counted .most, g .nodes-are, g .starts-size, g .findings-size)
+
+packed-requires : tie.Need-packed-requires Inv-loop μ-loop
+packed-requires c κs =
+    let f = c .before .before .before .before .before .before .before in
+    good-fits (f .before .before .before .before .before .loop .inv) (f .before .before .before .before .loop-test .taken) (f .before .before .before .record-at .ensures) (f .before .right-place .ensures) (not-false _ (f .if1 .left)) (c .before .before .before .before .before .node-step .ensures) (c .before .before .before .step2 .given .1)
 
 mul-findings : tie.Need-mul-findings Inv-loop μ-loop
-mul-findings c = omega (arith, c .before .before .before .before .before .before .before .before .before .before .before .before .before .before .before .before .before .loop .inv .counted .most, c .before .before .before .before .before .before .before .before .before .before .before .before .before .before .before .before .before .loop .inv .nodes-are, c .before .before .before .before .before .before .before .before .before .before .before .before .before .before .before .before .before .loop .inv .starts-size, c .before .before .before .before .before .before .before .before .before .before .before .before .before .before .before .before .before .loop .inv .findings-size)
+mul-findings c =
+    let g = c .before .before .before .before .before .before .before .before .before .before .before .before .before .loop .inv in
+    omega (arith, g .counted .most, g .nodes-are, g .starts-size, g .findings-size)
 
-array-set-from-findings : tie.Need-array-set-from-findings Inv-loop μ-loop
-array-set-from-findings c = omega (arith, c .before .before .before .before .before .before .before .before .before .before .before .before .before .before .before .before .before .loop .inv .counted .most, c .before .before .before .before .before .before .before .before .before .before .before .before .before .before .before .before .before .loop .inv .nodes-are, c .before .before .before .before .before .before .before .before .before .before .before .before .before .before .before .before .before .loop .inv .starts-size, c .before .before .before .before .before .before .before .before .before .before .before .before .before .before .before .before .before .loop .inv .findings-size)
+array-write-findings : tie.Need-array-write-findings Inv-loop μ-loop
+array-write-findings c =
+    let g = c .before .before .before .before .before .before .before .before .before .before .before .before .before .loop .inv in
+    omega (arith, g .counted .most, g .nodes-are, g .starts-size, g .findings-size)
 
 add-i : tie.Need-add-i Inv-loop μ-loop
-add-i c = omega (arith, c .before .before .before .before .before .before .before .before .before .before .before .before .before .before .before .before .before .loop .inv .counted .most, c .before .before .before .before .before .before .before .before .before .before .before .before .before .before .before .before .before .loop .inv .nodes-are)
+add-i c =
+    let g = c .before .before .before .before .before .before .before .before .before .before .before .before .before .loop .inv in
+    omega (arith, g .counted .most, g .nodes-are)
 
 loop-again : tie.Need-loop-again Inv-loop μ-loop
-loop-again c = turn (c .before .before .before .before .before .before .before .before .before .before .before .before .before .before .before .before .before .loop .inv) (c .before .before .before .before .before .before .before .before .before .before .before .before .before .before .before .before .loop-test .taken) (c .before .before .before .before .before .before .before .before .before .before .before .before .before .before .before .record-at .ensures) (c .before .before .before .before .before .before .before .before .before .before .before .before .before .right-place .ensures) (not-false _ (c .before .before .before .before .before .before .before .before .before .before .before .before .if1 .left)) (c .before .before .before .before .before .found .ensures) (c .before .before .before .step2 .given .1) (c .start .ensures)
+loop-again c =
+    let f = c .before .before .before .before .before .before .before .before in
+    turn (f .before .before .before .before .before .loop .inv) (f .before .before .before .before .loop-test .taken) (f .before .before .before .record-at .ensures) (f .before .right-place .ensures) (not-false _ (f .if1 .left)) (c .before .before .before .before .before .before .node-step .ensures) (c .before .before .before .before .step2 .given .1) (c .before .start .ensures) (c .packed .ensures)
 
-sub-goal : tie.Need-sub-goal Inv-loop μ-loop
-sub-goal c = omega (arith, c .before .loop .inv .counted .some-node, c .before .loop .inv .nodes-are)
+sub-t29 : tie.Need-sub-t29 Inv-loop μ-loop
+sub-t29 c = omega (arith, c .before .loop .inv .counted .some-node, c .before .loop .inv .nodes-are)
 
-mul-read-goal : tie.Need-mul-read-goal Inv-loop μ-loop
-mul-read-goal c = omega (arith, c .before .loop .inv .counted .most, c .before .loop .inv .nodes-are, c .before .loop .inv .starts-size, c .before .loop .inv .findings-size)
+cast-t30 : tie.Need-cast-t30 Inv-loop μ-loop
+cast-t30 c = omega (arith, c .before .loop .inv .counted .most, c .before .loop .inv .nodes-are)
 
-array-read-read-goal : tie.Need-array-read-read-goal Inv-loop μ-loop
-array-read-read-goal c = omega (arith, c .before .loop .inv .counted .most, c .before .loop .inv .nodes-are, c .before .loop .inv .starts-size, c .before .loop .inv .findings-size)
+start-of-requires : tie.Need-start-of-requires Inv-loop μ-loop
+start-of-requires c κs =
+    let g = c .before .before .loop .inv in
+    omega (arith, g .counted .some-node, g .counted .most, g .nodes-are)
 
-mul-read-goal-2 : tie.Need-mul-read-goal-2 Inv-loop μ-loop
-mul-read-goal-2 c = omega (arith, c .before .loop .inv .counted .most, c .before .loop .inv .nodes-are, c .before .loop .inv .starts-size, c .before .loop .inv .findings-size)
-
-array-copy-out-read-goal : tie.Need-array-copy-out-read-goal Inv-loop μ-loop
-array-copy-out-read-goal c = omega (arith, c .before .loop .inv .counted .most, c .before .loop .inv .nodes-are, c .before .loop .inv .starts-size, c .before .loop .inv .findings-size)
+finding-at-requires : tie.Need-finding-at-requires Inv-loop μ-loop
+finding-at-requires c κs =
+    let g = c .before .before .before .before .loop .inv in
+    omega (arith, g .counted .some-node, g .counted .most, g .nodes-are)
 
 returns-3 : tie.Need-returns-3 Inv-loop μ-loop
-returns-3 c = c .read-goal .ensures ∙ finish (c .before .before .before .loop .inv) (c .before .before .loop-test .left)
+returns-3 c = c .read-goal .ensures ∙ finish (c .before .before .before .before .before .before .loop .inv) (c .before .before .before .before .before .loop-test .left) (c .before .before .before .start-of .ensures) (c .before .finding-at .ensures .0)
 
 pub read-nodes-spec : {M : Type 1} → statement M
 read-nodes-spec =
@@ -108,35 +116,26 @@ read-nodes-spec =
     node-count-requires
     variable-count-requires
     loop-holds
-    cast-node
+    cast-t15
     record-at-requires
     right-place-requires
     returns
-    (λ c. search needs)
-    (λ c. search needs)
-    (λ c. search needs)
-    mul-found
-    array-copy-out-found
-    mul-found-2
-    array-copy-out-found-2
-    mul-found-3
-    array-copy-out-found-3
-    found-requires
+    node-step-requires
     (λ c. search needs)
     returns-2
     (λ c. search needs)
     start-requires
     mul-starts
     array-write-starts
+    packed-requires
     mul-findings
-    array-set-from-findings
+    array-write-findings
     add-i
     (λ c. omega arith)
     loop-again
-    sub-goal
-    mul-read-goal
-    array-read-read-goal
-    mul-read-goal-2
-    array-copy-out-read-goal
+    sub-t29
+    cast-t30
+    start-of-requires
+    finding-at-requires
     (λ c κs. search needs)
     returns-3)

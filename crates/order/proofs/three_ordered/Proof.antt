@@ -13,13 +13,13 @@ returns c = rw (sym (c .before .precedes .ensures) ∙ not-true _ (c .if1 .taken
 start-of-requires : tie.Need-start-of-requires
 start-of-requires c κs =
     let s = c .before .before .args in
-    omega (arith, eqb-true (s .c + 1) (s .e) (sym (c .before .precedes .ensures) ∙ not-false _ (c .if1 .left)))
+    omega (arith, eqb-true (s .c .0 + 1) (s .e .0) (sym (c .before .precedes .ensures) ∙ not-false _ (c .if1 .left)))
 
 two-ordered-requires : tie.Need-two-ordered-requires
 two-ordered-requires c κs =
     let s = c .before .before .before in
-    let e = eqb-true (s .args .c + 1) (s .args .e) (sym (c .before .before .precedes .ensures) ∙ not-false _ (c .before .if1 .left)) in
-    omega (arith, c .start-of .ensures, s .pre .1 (s .args .c) (omega arith))
+    let e = eqb-true (s .args .c .0 + 1) (s .args .e .0) (sym (c .before .before .precedes .ensures) ∙ not-false _ (c .before .if1 .left)) in
+    omega (arith, c .start-of .ensures, s .pre .1 (s .args .c .0) (omega arith))
 
 returns-2 : tie.Need-returns-2
 returns-2 c =

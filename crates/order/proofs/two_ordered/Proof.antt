@@ -13,7 +13,7 @@ returns c = rw (sym (c .before .precedes .ensures) ∙ not-true _ (c .if1 .taken
 start-of-requires : tie.Need-start-of-requires
 start-of-requires c κs =
     let s = c .before .before .args in
-    omega (arith, eqb-true (s .b + 1) (s .e) (sym (c .before .precedes .ensures) ∙ not-false _ (c .if1 .left)))
+    omega (arith, eqb-true (s .b .0 + 1) (s .e .0) (sym (c .before .precedes .ensures) ∙ not-false _ (c .if1 .left)))
 
 returns-2 : tie.Need-returns-2
 returns-2 c =
