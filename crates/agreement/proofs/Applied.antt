@@ -1,9 +1,9 @@
 -- Each promise with a premise, applied to sheet A of document 01, whose rule fails in two of four cases, and to the sheet of edge case 11 (-3..2 times -4..5 is at
 -- most 12), whose rule holds in all 60; and to these sheets with other names. So each premise is seen to be met. Assumes nothing.
 use Prim.Native.Nat.{ℕ, _+_, _/_, _≤_, _<_}
-use mathlib.Core.Path.{_≡_, refl, sym, _∙_}
+use mathlib.Core.Path.{_≡_, refl, sym, ap, _∙_}
 use mathlib.Core.Logic.{inl, ⊎-elim}
-use mathlib.Core.Bool.{true}
+use mathlib.Core.Bool.{Bool, true}
 use mathlib.Core.List.{List, [], _∷_, _++_}
 use mathlib.Core.Option.{Option, none, some}
 use native.Mathlib.Omega.{arith}
@@ -32,6 +32,7 @@ use Rattle.layout.specs.Sheet.{sheetOf}
 use Rattle.layout.specs.Fold.{ofTree, ofNode}
 use Rattle.layout.proofs.Agree.{domain-nameless}
 use Rattle.layout.proofs.Example.{areBytes, bytes-by}
+use Rattle.refusals.specs.declared.Refusal.{Refusal}
 use Rattle.refusals.specs.declared.Reading.the-variants.{Accepted as accepted}
 use Rattle.refusals.specs.Rows.{Answered}
 use Rattle.blocks.specs.Block.{BlockPart}
@@ -58,46 +59,75 @@ use Rattle.smtlib.specs.Commands.{Declaration}
 use Rattle.smtlib.specs.Satisfaction.{declared, Satisfies}
 use Rattle.wording.specs.Words.{wordOf}
 use Rattle.wording.specs.Sixteen.{hexDigit, hexText, literal, symbolText}
-use Rattle.wording.specs.Script.{joined, script}
+use Rattle.wording.specs.Script.{script}
 use Rattle.forms.specs.Form.{scriptBy}
 use Rattle.forms.specs.Binary.{bitsLiteral}
 use Rattle.forms.proofs.Sexps.{width16}
 use Rattle.forms.proofs.Spelt.{width-spelled}
 use Rattle.writer.specs.Writes.{enoughRoom}
-use Rattle.agreement.specs.Starred.{block, case1, case8, case11}
+use Rattle.agreement.specs.Starred.{sheetFrom, sheetA, sheet8, sheet11}
 use Rattle.agreement.specs.Statements.{Sheet, settingOf, Matched, Listed}
 use Rattle.agreement.proofs.Proved.{held as held-in-16}
 use Rattle.agreement.proofs.Proved.{tallied, checked, sheet-of-rule, rule-of-sheet, one-byte-changed, holds-where, room-enough, name-empty, block-empty, match, match-in-bits, check-agrees, tally-agrees, same-script}
 
--- ---- what is computed of a sheet of two variables, and of one with other names
-pub record Computed (s other : List ℕ) (cases heldCases failedCases : ℕ) (firstCase : Option (List ℤ)) : Type 0 where
-  pub bytes : areBytes s ≡ true
-  pub other-bytes : areBytes other ≡ true
-  pub accepts : refusalOf s ≡ none
-  pub other-accepts : refusalOf other ≡ none
-  pub variables : variableCount s ≡ 2
-  pub size : length s ≡ 1024
-  pub cases-are : caseCount (ruleIn s) ≡ cases
-  pub first-is : firstFailure (ruleIn s) ≡ firstCase
-  pub held-are : held (ruleIn s) ≡ heldCases
-  pub failed-are : failed (ruleIn s) ≡ failedCases
+-- ---- what is computed of a sheet, and of one with other names
+pub record Facts : Type 0 where
+  pub are-bytes : Bool × Bool
+  pub refusals : Option Refusal × Option Refusal
+  pub variables : ℕ
+  pub size : ℕ
+  pub cases : ℕ
+  pub first : Option (List ℤ)
+  pub held-cases : ℕ
+  pub failed-cases : ℕ
+
+abbrev pub factsOf : List ℕ → List ℕ → Facts
+factsOf s other = record {
+  are-bytes = (areBytes s, areBytes other);
+  refusals = (refusalOf s, refusalOf other);
+  variables = variableCount s;
+  size = length s;
+  cases = caseCount (ruleIn s);
+  first = firstFailure (ruleIn s);
+  held-cases = held (ruleIn s);
+  failed-cases = failed (ruleIn s);
+}
+
+-- two variables in two blocks, so many cases that held and failed, and the first that failed
+abbrev pub accepting : ℕ → ℕ → Option (List ℤ) → Facts
+accepting h f c = record { are-bytes = (true, true); refusals = (none, none); variables = 2; size = 1024; cases = h + f; first = c; held-cases = h; failed-cases = f }
+
+pub record Computed (s other : List ℕ) (heldCases failedCases : ℕ) (firstCase : Option (List ℤ)) : Type 0 where
+  pub facts : factsOf s other ≡ accepting heldCases failedCases firstCase
   pub scripts : script (ruleIn s) ≡ script (ruleIn other)
 
-module _ {s other : List ℕ} {cases heldCases failedCases : ℕ} {firstCase : Option (List ℤ)} (c : Computed s other cases heldCases failedCases firstCase) (few : cases ≤ mostCases) where
+module _ {s other : List ℕ} {heldCases failedCases : ℕ} {firstCase : Option (List ℤ)} (c : Computed s other heldCases failedCases firstCase) (few : heldCases + failedCases ≤ mostCases) where
+  fact : {A : Type 0} (f : Facts → A) → f (factsOf s other) ≡ f (accepting heldCases failedCases firstCase)
+  fact f = ap f (c .facts)
+
+  pub accepts : refusalOf s ≡ none
+  accepts = fact (λ (x : Facts). x .refusals .0)
+
+  pub first-is : firstFailure (ruleIn s) ≡ firstCase
+  first-is = fact (λ (x : Facts). x .first)
+
+  two-variables : variableCount s ≡ 2
+  two-variables = fact (λ (x : Facts). x .variables)
+
   pub sheet : Sheet s
-  sheet = record { bytes = bytes-by s (c .bytes); no-row = sheet-exactly s .passed .0 (c .accepts) }
+  sheet = record { bytes = bytes-by s (fact (λ (x : Facts). x .are-bytes .0)); no-row = sheet-exactly s .passed .0 accepts }
 
   pub other-sheet : Sheet other
-  other-sheet = record { bytes = bytes-by other (c .other-bytes); no-row = sheet-exactly other .passed .0 (c .other-accepts) }
+  other-sheet = record { bytes = bytes-by other (fact (λ (x : Facts). x .are-bytes .1)); no-row = sheet-exactly other .passed .0 (fact (λ (x : Facts). x .refusals .1)) }
 
   pub few-cases : caseCount (ruleIn s) ≤ mostCases
-  few-cases = rw (c .cases-are) few
+  few-cases = rw (fact (λ (x : Facts). x .cases)) few
 
   enough : (room : List ℤ) → length room ≡ 3 → variableCount s ≤ length room
-  enough room l = omega (arith, c .variables)
+  enough room l = omega (arith, two-variables)
 
   pub tally-is : Tallies s (record { reading = accepted; held = heldCases; failed = failedCases })
-  tally-is = let e = tallied sheet few-cases in record { answer = sym e; held-count = rw (e, c .held-are); failed-count = rw (e, c .failed-are) }
+  tally-is = let e = tallied sheet few-cases in record { answer = sym e; held-count = rw (e, fact (λ (x : Facts). x .held-cases)); failed-count = rw (e, fact (λ (x : Facts). x .failed-cases)) }
 
   -- ---- the promises about a sheet and its script
   pub allowed-sheet : Allowed (ruleIn s) × (sheetOf (ruleIn s) ≡ s)
@@ -107,7 +137,7 @@ module _ {s other : List ℕ} {cases heldCases failedCases : ℕ} {firstCase : O
   sheet-again = rule-of-sheet (ruleIn s) (allowed-sheet .0)
 
   pub byte-changed : (j b : ℕ) → j < 1024 → b < 256 → (b ≡ byteAt s j → ⊥) → refusalOf (set s j b) ≡ some (record { number = 2; place = j / blockBytes })
-  byte-changed j b h = one-byte-changed s sheet j b (rw (c .size) h)
+  byte-changed j b h = one-byte-changed s sheet j b (rw (fact (λ (x : Facts). x .size)) h)
 
   pub script-fits : length (script (ruleIn s)) ≤ enoughRoom
   script-fits = room-enough s sheet
@@ -134,13 +164,13 @@ module _ {s other : List ℕ} {cases heldCases failedCases : ℕ} {firstCase : O
     pub fails-as : {first : List ℤ} → firstCase ≡ some first → Checks s room Fails (first ++ drop (length first) room)
     fails-as e =
         let d = checked sheet few-cases (enough room three) in
-        let f = c .first-is ∙ e in
+        let f = first-is ∙ e in
         record { answer = rw (d, f); room = rw (d, f) }
 
     pub holds-as : firstCase ≡ none → Checks s room Holds room
     holds-as e =
         let d = checked sheet few-cases (enough room three) in
-        let f = c .first-is ∙ e in
+        let f = first-is ∙ e in
         record { answer = rw (d, f); room = rw (d, f) }
 
     -- a rule that fails: some setting satisfies the script
@@ -161,55 +191,22 @@ module _ {s other : List ℕ} {cases heldCases failedCases : ℕ} {firstCase : O
     pub all-hold : firstCase ≡ none → AllHold (ruleIn s)
     all-hold e = holds-where s sheet few-cases room room Holds (enough room three) (holds-as e) .0 refl
 
--- ---- sheet A, and the same with the names a and b
-abbrev pub sheetA : List ℕ
-sheetA = case1 .sheet
-
+-- ---- sheet A, and the same with the names a and b; the sheet of edge case 11, and the same with the names p and q
 abbrev pub sheetB : List ℕ
-sheetB =
-    block (1 ∷ 0 ∷ 3 ∷ 0 ∷ 2 ∷ 0 ∷ 0 ∷ 0 ∷ 0 ∷ 0 ∷ 1 ∷ 0 ∷ 1 ∷ 0 ∷ 97 ∷ 0 ∷ 0 ∷ 0 ∷ 0 ∷ 0 ∷ 0 ∷ 0 ∷ 0 ∷ 0 ∷ 0 ∷ 0 ∷ 0 ∷ 0 ∷ 0 ∷ 0 ∷ 0 ∷ 0 ∷ 0 ∷ 0 ∷ 1 ∷ 0 ∷ 1 ∷ 0 ∷ 98 ∷ []) 18 21
-    ++ block (17 ∷ 0 ∷ 0 ∷ 0 ∷ 0 ∷ 0 ∷ 0 ∷ 0 ∷ 0 ∷ 0 ∷ 0 ∷ 0 ∷ 0 ∷ 0 ∷ 0 ∷ 0 ∷ 17 ∷ 0 ∷ 1 ∷ 0 ∷ 0 ∷ 0 ∷ 0 ∷ 0 ∷ 0 ∷ 0 ∷ 0 ∷ 0 ∷ 0 ∷ 0 ∷ 0 ∷ 0 ∷ 8 ∷ 0 ∷ 0 ∷ 0 ∷ 1 ∷ []) 116 2
-
-pub computedA : Computed sheetA sheetB 4 2 2 (some (pos 0 ∷ pos 1 ∷ []))
-unfolding value sizeOf casesOf holds failures firstFailure held failed treeAt allBelow below course first enc dec isNarrow hasNarrowEnds leastOf greatestOf find kindOf weighted checkOf blockRight startAt ofTree ofNode lengthRight early zeros countsRight tailClear outsideClear header isLetter isNameByte allNameBytes nameRight sameBytes variableRight fresh findingOf rightlyPlaced typed nodeRefusal nodes refusalOf hexDigit hexText literal symbolText joined script
-computedA = record {
-  bytes = refl;
-  other-bytes = refl;
-  accepts = refl;
-  other-accepts = refl;
-  variables = refl;
-  size = refl;
-  cases-are = refl;
-  first-is = refl;
-  held-are = refl;
-  failed-are = refl;
-  scripts = refl;
-}
-
--- ---- the sheet of edge case 11, and the same with the names p and q
-abbrev pub sheet11 : List ℕ
-sheet11 = case11 .sheet
+sheetB = sheetFrom "0100 0300 02" ("0000 0100 01 00 61" ∷ "0000 0100 01 00 62" ∷ []) "1215" ("1100 0000" ∷ "1100 0100" ∷ "0800 0000 0100" ∷ []) "7402"
 
 abbrev pub sheet11-renamed : List ℕ
-sheet11-renamed =
-    block (1 ∷ 0 ∷ 5 ∷ 0 ∷ 2 ∷ 0 ∷ 0 ∷ 0 ∷ 253 ∷ 255 ∷ 2 ∷ 0 ∷ 1 ∷ 0 ∷ 112 ∷ 0 ∷ 0 ∷ 0 ∷ 0 ∷ 0 ∷ 0 ∷ 0 ∷ 0 ∷ 0 ∷ 0 ∷ 0 ∷ 0 ∷ 0 ∷ 0 ∷ 0 ∷ 0 ∷ 0 ∷ 252 ∷ 255 ∷ 5 ∷ 0 ∷ 1 ∷ 0 ∷ 113 ∷ []) 14 110
-    ++ block (17 ∷ 0 ∷ 0 ∷ 0 ∷ 0 ∷ 0 ∷ 0 ∷ 0 ∷ 0 ∷ 0 ∷ 0 ∷ 0 ∷ 0 ∷ 0 ∷ 0 ∷ 0 ∷ 17 ∷ 0 ∷ 1 ∷ 0 ∷ 0 ∷ 0 ∷ 0 ∷ 0 ∷ 0 ∷ 0 ∷ 0 ∷ 0 ∷ 0 ∷ 0 ∷ 0 ∷ 0 ∷ 21 ∷ 0 ∷ 0 ∷ 0 ∷ 1 ∷ 0 ∷ 0 ∷ 0 ∷ 0 ∷ 0 ∷ 0 ∷ 0 ∷ 0 ∷ 0 ∷ 0 ∷ 0 ∷ 16 ∷ 0 ∷ 0 ∷ 0 ∷ 0 ∷ 0 ∷ 0 ∷ 0 ∷ 12 ∷ 0 ∷ 0 ∷ 0 ∷ 0 ∷ 0 ∷ 0 ∷ 0 ∷ 10 ∷ 0 ∷ 2 ∷ 0 ∷ 3 ∷ []) 188 13
+sheet11-renamed = sheetFrom "0100 0500 02" ("fdff 0200 01 00 70" ∷ "fcff 0500 01 00 71" ∷ []) "0e6e" ("1100 0000" ∷ "1100 0100" ∷ "1500 0000 0100" ∷ "1000 0000 0000 0000 0c00" ∷ "0a00 0200 0300" ∷ []) "bc0d"
 
-pub computed11 : Computed sheet11 sheet11-renamed 60 60 0 none
-unfolding value sizeOf casesOf holds failures firstFailure held failed treeAt allBelow below course first enc dec isNarrow hasNarrowEnds leastOf greatestOf find kindOf weighted checkOf blockRight startAt ofTree ofNode lengthRight early zeros countsRight tailClear outsideClear header isLetter isNameByte allNameBytes nameRight sameBytes variableRight fresh findingOf rightlyPlaced typed nodeRefusal nodes refusalOf hexDigit hexText literal symbolText joined script
-computed11 = record {
-  bytes = refl;
-  other-bytes = refl;
-  accepts = refl;
-  other-accepts = refl;
-  variables = refl;
-  size = refl;
-  cases-are = refl;
-  first-is = refl;
-  held-are = refl;
-  failed-are = refl;
-  scripts = refl;
-}
+pub computed : Computed sheetA sheetB 2 2 (some (pos 0 ∷ pos 1 ∷ [])) × Computed sheet11 sheet11-renamed 60 0 none
+unfolding value sizeOf casesOf holds failures firstFailure held failed treeAt allBelow below course first enc dec isNarrow hasNarrowEnds leastOf greatestOf find kindOf weighted checkOf blockRight startAt ofTree ofNode lengthRight early zeros countsRight tailClear outsideClear header isLetter isNameByte allNameBytes nameRight sameBytes variableRight fresh findingOf rightlyPlaced typed nodeRefusal nodes refusalOf hexDigit hexText literal symbolText script
+computed = (record { facts = refl; scripts = refl }, record { facts = refl; scripts = refl })
+
+abbrev computedA : Computed sheetA sheetB 2 2 (some (pos 0 ∷ pos 1 ∷ []))
+computedA = computed .0
+
+abbrev computed11 : Computed sheet11 sheet11-renamed 60 0 none
+computed11 = computed .1
 
 -- ---- both, by the module above
 abbrev three : List ℤ
@@ -257,29 +254,29 @@ pub finding-A : findingAt sheetA 0 ≡ Integer (pos 0 ⋯ pos 1)
 unfolding below course dec find kindOf ofNode findingOf
 finding-A = refl
 
-pub range-A : (h : 0 < nodeCount sheetA) (k : Case (ruleIn sheetA) (pos 0 ∷ pos 1 ∷ [])) → In (pos 0 ⋯ pos 1) (nodeValue sheetA (computedA .accepts) k h finding-A) × Narrow (nodeValue sheetA (computedA .accepts) k h finding-A)
-range-A h k = (in-range sheetA (computedA .accepts) k h finding-A, in-16-bits sheetA (computedA .accepts) k h finding-A)
+pub range-A : (h : 0 < nodeCount sheetA) (k : Case (ruleIn sheetA) (pos 0 ∷ pos 1 ∷ [])) → In (pos 0 ⋯ pos 1) (nodeValue sheetA (accepts computedA (lit≤ tt)) k h finding-A) × Narrow (nodeValue sheetA (accepts computedA (lit≤ tt)) k h finding-A)
+range-A h k = (in-range sheetA (accepts computedA (lit≤ tt)) k h finding-A, in-16-bits sheetA (accepts computedA (lit≤ tt)) k h finding-A)
 
 pub case-A : Case (ruleIn sheetA) (pos 0 ∷ pos 1 ∷ [])
-case-A = first-fails (ruleIn sheetA) (computedA .first-is) .0
+case-A = first-fails (ruleIn sheetA) (first-is computedA (lit≤ tt)) .0
 
 -- ---- a sheet that is refused: 16,384 + 16,384 at node 2
-pub refusal-8 : refusalOf (case8 .sheet) ≡ some (record { number = 8; place = 2 })
+pub refusal-8 : refusalOf sheet8 ≡ some (record { number = 8; place = 2 })
 unfolding allBelow below course first dec isNarrow hasNarrowEnds leastOf greatestOf find kindOf weighted checkOf blockRight startAt ofNode lengthRight early zeros countsRight tailClear outsideClear header isLetter isNameByte allNameBytes nameRight sameBytes variableRight fresh findingOf rightlyPlaced typed nodeRefusal nodes refusalOf
 refusal-8 = refl
 
-pub refused-8 : Answered (sheetRows (case8 .sheet)) (record { number = 8; place = 2 })
-refused-8 = sheet-exactly (case8 .sheet) .refused (record { number = 8; place = 2 }) .0 refusal-8
+pub refused-8 : Answered (sheetRows sheet8) (record { number = 8; place = 2 })
+refused-8 = sheet-exactly sheet8 .refused (record { number = 8; place = 2 }) .0 refusal-8
 
 -- ---- parts of a lent sheet: a name of sheet A, none of the sheet that is refused, and no third block of sheet A
 abbrev lent : List ℕ → RefT (List ℕ)
 lent s = record { ptr = (0, 0); name = 0; now = s }
 
 pub name-A : (part : RefT (List ℕ)) → NamePart (lent sheetA) 0 part → length (part .now) ≡ 0 → ⊥
-name-A part p e = ⊎-elim (λ w. let z : _≡_ {A = ℕ} 0 1 = cc (w .1, computedA .accepts) in omega arith) (λ l. omega (arith, computedA .variables)) (name-empty (lent sheetA) part 0 p .0 e)
+name-A part p e = ⊎-elim (λ w. let z : _≡_ {A = ℕ} 0 1 = cc (w .1, accepts computedA (lit≤ tt)) in omega arith) (λ l. omega (arith, two-variables computedA (lit≤ tt))) (name-empty (lent sheetA) part 0 p .0 e)
 
-pub no-name-8 : (part : RefT (List ℕ)) → NamePart (lent (case8 .sheet)) 0 part → length (part .now) ≡ 0
-no-name-8 part p = name-empty (lent (case8 .sheet)) part 0 p .1 (inl (record { number = 8; place = 2 }, refusal-8))
+pub no-name-8 : (part : RefT (List ℕ)) → NamePart (lent sheet8) 0 part → length (part .now) ≡ 0
+no-name-8 part p = name-empty (lent sheet8) part 0 p .1 (inl (record { number = 8; place = 2 }, refusal-8))
 
 pub no-block-A : (part : RefT (List ℕ)) → BlockPart (lent sheetA) 2 part → length (part .now) ≡ 0
-no-block-A part p = block-empty (lent sheetA) part 2 p .1 (inl (λ h. omega (arith, computedA .size)))
+no-block-A part p = block-empty (lent sheetA) part 2 p .1 (inl (λ h. omega (arith, fact computedA (lit≤ tt) (λ (x : Facts). x .size))))

@@ -1,205 +1,127 @@
--- The worked check and the starred cases of document 01, "Cases at each edge": one table. A row is a whole sheet's bytes, what `read` answers and,
--- where they are named, what a node is found to be, what the check, the tally and the writer answer, and the lent rooms afterwards.
-use Prim.Native.Nat.{ℕ, _-_}
-use mathlib.Core.Bool.{Bool, true, false}
-use mathlib.Core.List.{List, [], _∷_, _++_, map}
-use mathlib.Core.Option.{Option, none, some}
+-- The worked check and the starred cases of document 01, "Cases at each edge", in its order: one table. A row is a whole sheet's bytes and what the calls
+-- answer of it, with their lent rooms before and afterwards; each answer is held to the predicate that the call's contract states.
+use Prim.Native.Nat.{ℕ, _+_, _-_, _*_}
+use Prim.Native.String.{String}
+use mathlib.Core.Path.{_≡_}
+use mathlib.Core.Bool.{true, false, cond}
+use mathlib.Core.List.{List, [], _∷_, _++_}
+use lib.Dec.{eqb, ltb}
 use lib.IntN.{ℤ, pos, negsuc}
 use lib.ListN.{length, replicate}
 use Rattle.lists.specs.Ascii.{ascii}
-use Rattle.refusals.specs.declared.Refusal.{Refusal}
+use Rattle.lists.specs.Joined.{joined}
+use Rattle.numbers.specs.declared.Range.{Range}
 use Rattle.numbers.specs.Ranges.{_⋯_}
-use Rattle.meaning.specs.Cases.{firstFailure, held, failed}
-use Rattle.layout.specs.Parts.{ruleIn}
-use Rattle.findings.specs.declared.Finding.{Finding}
+use Rattle.layout.specs.Limits.{contentBytes, headerBytes, variableBytes, nodeBytes}
+use Rattle.refusals.specs.declared.Reading.{Reading}
+use Rattle.refusals.specs.declared.Reading.the-variants.{Accepted, Refused}
+use Rattle.refusals.specs.Said.{saidOf}
 use Rattle.findings.specs.declared.Finding.the-variants.{Integer}
 use Rattle.findings.specs.Findings.{findingAt}
 use Rattle.reading.specs.Cascade.{refusalOf}
-use Rattle.cases.specs.Checks.{tryRefusal, checkRefusal, verdict, roomAfter}
-use Rattle.cases.specs.Tallies.{unlessRefused}
-use Rattle.wording.specs.Script.{script}
-use Rattle.writer.specs.Writes.{scriptRefusal, scriptVerdict, scriptRoom}
+use Rattle.cases.specs.declared.Checked.{Checked}
+use Rattle.cases.specs.declared.Checked.the-variants.{Holds, Fails}
+use Rattle.cases.specs.declared.Tallied.{Tallied}
+use Rattle.cases.specs.Checks.{Checks}
+use Rattle.cases.specs.Tallies.{Tallies}
+use Rattle.writer.specs.declared.Written.{Written}
+use Rattle.writer.specs.declared.Written.the-variants.{Script}
+use Rattle.writer.specs.Writes.{Writes}
 
--- a block: its first bytes, zeros up to 510, and the stored check's two bytes
-abbrev pub block : List ℕ → ℕ → ℕ → List ℕ
-block used low high = used ++ (replicate (510 - length used) 0 ++ (low ∷ high ∷ []))
+-- ---- bytes from a text: two hexadecimal digits each, blanks passed over
+abbrev pub digits : List ℕ → List ℕ
+digits [] = []
+digits (c ∷ cs) = elim (eqb c 32) [ true ↦ digits cs | false ↦ cond (ltb c 58) (c - 48) (c - 87) ∷ digits cs ]
 
--- the check with a lent room: the refusal and whether the rule fails, and the room afterwards; the tally: the refusal and both counts
-pub record Trial : Type 0 where
-  pub room : List ℤ
-  pub check : Option Refusal × Bool
-  pub after : List ℤ
-  pub tally : Option Refusal × ℕ × ℕ
+abbrev pub pairs : List ℕ → List ℕ
+pairs [] = []
+pairs (h ∷ []) = []
+pairs (h ∷ l ∷ ds) = (16 * h + l) ∷ pairs ds
 
--- the writer with a lent room of so many zeros: the refusal and the bytes written, and the room afterwards
-pub record Writing : Type 0 where
-  pub size : ℕ
-  pub answer : Option Refusal × ℕ
-  pub after : List ℕ
+abbrev pub hex : String → List ℕ
+hex t = pairs (digits (ascii t))
 
-pub record Row : Type 0 where
+-- the bytes, and zeros up to n of them
+abbrev pub padded : ℕ → List ℕ → List ℕ
+padded n t = t ++ replicate (n - length t) 0
+
+-- block 0 from its first bytes, its variable records and its stored check, and block 1 from its node records and its stored check
+abbrev pub sheetFrom : String → List String → String → List String → String → List ℕ
+sheetFrom head variables check nodes check₁ =
+    padded contentBytes (padded headerBytes (hex head) ++ joined (λ (t : String). padded variableBytes (hex t)) variables) ++ hex check
+    ++ (padded contentBytes (joined (λ (t : String). padded nodeBytes (hex t)) nodes) ++ hex check₁)
+
+-- ---- rows
+pub data Claim : Type 0 where
+  reads : Reading → Claim
+  finds : ℕ → Range → Claim
+  checks : List ℤ → Checked → List ℤ → Claim
+  tallies : Tallied → Claim
+  writes : ℕ → Written → List ℕ → Claim
+
+-- what `read` answers, a node's range, what `check` answers and leaves in its room, what `tally` answers, and what the writer answers and leaves in a room of
+-- so many zeros
+abbrev pub Met : List ℕ → Claim → Type 0
+Met s (reads r) = saidOf r ≡ refusalOf s
+Met s (finds n r) = findingAt s n ≡ Integer r
+Met s (checks room r after) = Checks s room r after
+Met s (tallies r) = Tallies s r
+Met s (writes size r after) = Writes s (replicate size 0) r after
+
+pub record StarredCase : Type 0 where
   pub sheet : List ℕ
-  pub answer : Option Refusal
-  pub ranges : List (ℕ × Finding)
-  pub trials : List Trial
-  pub writings : List Writing
+  pub claims : List Claim
 
--- the worked check: byte 0 is 1, byte 509 is 255 and the rest zero, stored 13 FC; the check is right, so what is wrong is N
-abbrev pub worked : Row
-worked = record {
-  sheet = block (1 ∷ (replicate 508 0 ++ (255 ∷ []))) 0x13 0xfc;
-  answer = some (record { number = 4; place = 0 });
-  ranges = [];
-  trials = [];
-  writings = [];
-}
+abbrev pub AllMet : List ℕ → List Claim → Type 0
+AllMet s [] = Unit {0}
+AllMet s (c ∷ cs) = Met s c × AllMet s cs
 
--- 1: sheet A, 4 cases, first failure (0, 1), held 2, failed 2; its script
-abbrev pub case1 : Row
-case1 = record {
-  sheet =
-      block (1 ∷ 0 ∷ 3 ∷ 0 ∷ 2 ∷ 0 ∷ 0 ∷ 0 ∷ 0 ∷ 0 ∷ 1 ∷ 0 ∷ 6 ∷ 0 ∷ 115 ∷ 101 ∷ 97 ∷ 116 ∷ 101 ∷ 100 ∷ 0 ∷ 0 ∷ 0 ∷ 0 ∷ 0 ∷ 0 ∷ 0 ∷ 0 ∷ 0 ∷ 0 ∷ 0 ∷ 0 ∷ 0 ∷ 0 ∷ 1 ∷ 0 ∷ 7 ∷ 0 ∷ 116 ∷ 114 ∷ 97 ∷ 105 ∷ 110 ∷ 101 ∷ 100 ∷ []) 50 166
-      ++ block (17 ∷ 0 ∷ 0 ∷ 0 ∷ 0 ∷ 0 ∷ 0 ∷ 0 ∷ 0 ∷ 0 ∷ 0 ∷ 0 ∷ 0 ∷ 0 ∷ 0 ∷ 0 ∷ 17 ∷ 0 ∷ 1 ∷ 0 ∷ 0 ∷ 0 ∷ 0 ∷ 0 ∷ 0 ∷ 0 ∷ 0 ∷ 0 ∷ 0 ∷ 0 ∷ 0 ∷ 0 ∷ 8 ∷ 0 ∷ 0 ∷ 0 ∷ 1 ∷ []) 116 2;
-  answer = none;
-  ranges = [];
-  trials = record { room = pos 7 ∷ pos 8 ∷ pos 9 ∷ []; check = (none, true); after = pos 0 ∷ pos 1 ∷ pos 9 ∷ []; tally = (none, 2, 2) } ∷ [];
-  writings = record { size = 235; answer = (none, 234); after = ascii "(set-logic QF_UFBV)\n(declare-fun v0 () (_ BitVec 16))\n(declare-fun v1 () (_ BitVec 16))\n(assert (and (bvsle #x0000 v0) (bvsle v0 #x0001)))\n(assert (and (bvsle #x0000 v1) (bvsle v1 #x0001)))\n(assert (not (= v0 v1)))\n(check-sat)\n(exit)\n" ++ (0 ∷ []) } ∷ [];
-}
+abbrev pub EachMet : List StarredCase → Type 0
+EachMet [] = Unit {0}
+EachMet (c ∷ cs) = AllMet (c .sheet) (c .claims) × EachMet cs
 
--- 2: no variables, goal true: holds, held 1
-abbrev pub case2 : Row
-case2 = record {
-  sheet =
-      block (1 ∷ 0 ∷ 1 ∷ []) 5 0
-      ++ block (1 ∷ []) 3 0;
-  answer = none;
-  ranges = [];
-  trials = record { room = pos 7 ∷ []; check = (none, false); after = pos 7 ∷ []; tally = (none, 1, 0) } ∷ [];
-  writings = [];
-}
+-- ---- the sheets that other promises are tried on too: sheet A, and those of cases 8 and 11
+abbrev pub sheetA : List ℕ
+sheetA = sheetFrom "0100 0300 02" ("0000 0100 06 00 736561746564" ∷ "0000 0100 07 00 747261696e6564" ∷ []) "32a6" ("1100 0000" ∷ "1100 0100" ∷ "0800 0000 0100" ∷ []) "7402"
 
--- 3: goal false: fails, failed 1
-abbrev pub case3 : Row
-case3 = record {
-  sheet =
-      block (1 ∷ 0 ∷ 1 ∷ []) 5 0
-      ++ block (2 ∷ []) 4 0;
-  answer = none;
-  ranges = [];
-  trials = record { room = pos 7 ∷ []; check = (none, true); after = pos 7 ∷ []; tally = (none, 0, 1) } ∷ [];
-  writings = [];
-}
+abbrev pub sheet8 : List ℕ
+sheet8 = sheetFrom "0100 0500" [] "1100" ("1000 0000 0000 0000 0040" ∷ "1000 0000 0000 0000 0040" ∷ "1300 0000 0100" ∷ "1000 0000 0000 0000 ff7f" ∷ "0800 0200 0300" ∷ []) "b468"
 
--- 5: constant -1 writes `#xffff`
-abbrev pub case5 : Row
-case5 = record {
-  sheet =
-      block (1 ∷ 0 ∷ 3 ∷ []) 11 0
-      ++ block (16 ∷ 0 ∷ 0 ∷ 0 ∷ 0 ∷ 0 ∷ 0 ∷ 0 ∷ 255 ∷ 255 ∷ 0 ∷ 0 ∷ 0 ∷ 0 ∷ 0 ∷ 0 ∷ 16 ∷ 0 ∷ 0 ∷ 0 ∷ 0 ∷ 0 ∷ 0 ∷ 0 ∷ 255 ∷ 255 ∷ 0 ∷ 0 ∷ 0 ∷ 0 ∷ 0 ∷ 0 ∷ 8 ∷ 0 ∷ 0 ∷ 0 ∷ 1 ∷ []) 9 72;
-  answer = none;
-  ranges = [];
-  trials = [];
-  writings = record { size = 73; answer = (none, 72); after = ascii "(set-logic QF_UFBV)\n(assert (not (= #xffff #xffff)))\n(check-sat)\n(exit)\n" ++ (0 ∷ []) } ∷ [];
-}
+abbrev pub sheet11 : List ℕ
+sheet11 = sheetFrom "0100 0500 02" ("fdff 0200 01 00 78" ∷ "fcff 0500 01 00 79" ∷ []) "be6f" ("1100 0000" ∷ "1100 0100" ∷ "1500 0000 0100" ∷ "1000 0000 0000 0000 0c00" ∷ "0a00 0200 0300" ∷ []) "bc0d"
 
--- 6: constant -32,768 writes `#x8000`
-abbrev pub case6 : Row
-case6 = record {
-  sheet =
-      block (1 ∷ 0 ∷ 3 ∷ []) 11 0
-      ++ block (16 ∷ 0 ∷ 0 ∷ 0 ∷ 0 ∷ 0 ∷ 0 ∷ 0 ∷ 0 ∷ 128 ∷ 0 ∷ 0 ∷ 0 ∷ 0 ∷ 0 ∷ 0 ∷ 16 ∷ 0 ∷ 0 ∷ 0 ∷ 0 ∷ 0 ∷ 0 ∷ 0 ∷ 0 ∷ 128 ∷ 0 ∷ 0 ∷ 0 ∷ 0 ∷ 0 ∷ 0 ∷ 8 ∷ 0 ∷ 0 ∷ 0 ∷ 1 ∷ []) 79 20;
-  answer = none;
-  ranges = [];
-  trials = [];
-  writings = record { size = 73; answer = (none, 72); after = ascii "(set-logic QF_UFBV)\n(assert (not (= #x8000 #x8000)))\n(check-sat)\n(exit)\n" ++ (0 ∷ []) } ∷ [];
-}
+-- sheet A's script
+abbrev pub scriptA : List ℕ
+scriptA = ascii "(set-logic QF_UFBV)\n(declare-fun v0 () (_ BitVec 16))\n(declare-fun v1 () (_ BitVec 16))\n(assert (and (bvsle #x0000 v0) (bvsle v0 #x0001)))\n(assert (and (bvsle #x0000 v1) (bvsle v1 #x0001)))\n(assert (not (= v0 v1)))\n(check-sat)\n(exit)\n"
 
--- 7: 16,384 + 16,383 passes
-abbrev pub case7 : Row
-case7 = record {
-  sheet =
-      block (1 ∷ 0 ∷ 5 ∷ []) 17 0
-      ++ block (16 ∷ 0 ∷ 0 ∷ 0 ∷ 0 ∷ 0 ∷ 0 ∷ 0 ∷ 0 ∷ 64 ∷ 0 ∷ 0 ∷ 0 ∷ 0 ∷ 0 ∷ 0 ∷ 16 ∷ 0 ∷ 0 ∷ 0 ∷ 0 ∷ 0 ∷ 0 ∷ 0 ∷ 255 ∷ 63 ∷ 0 ∷ 0 ∷ 0 ∷ 0 ∷ 0 ∷ 0 ∷ 19 ∷ 0 ∷ 0 ∷ 0 ∷ 1 ∷ 0 ∷ 0 ∷ 0 ∷ 0 ∷ 0 ∷ 0 ∷ 0 ∷ 0 ∷ 0 ∷ 0 ∷ 0 ∷ 16 ∷ 0 ∷ 0 ∷ 0 ∷ 0 ∷ 0 ∷ 0 ∷ 0 ∷ 255 ∷ 127 ∷ 0 ∷ 0 ∷ 0 ∷ 0 ∷ 0 ∷ 0 ∷ 8 ∷ 0 ∷ 2 ∷ 0 ∷ 3 ∷ []) 129 129;
-  answer = none;
-  ranges = (2, Integer (pos 32767 ⋯ pos 32767)) ∷ [];
-  trials = [];
-  writings = [];
-}
+abbrev pub counts : ℕ → ℕ → Claim
+counts h f = tallies (record { reading = Accepted; held = h; failed = f })
 
--- 8: 16,384 + 16,384 gives 8
-abbrev pub case8 : Row
-case8 = record {
-  sheet =
-      block (1 ∷ 0 ∷ 5 ∷ []) 17 0
-      ++ block (16 ∷ 0 ∷ 0 ∷ 0 ∷ 0 ∷ 0 ∷ 0 ∷ 0 ∷ 0 ∷ 64 ∷ 0 ∷ 0 ∷ 0 ∷ 0 ∷ 0 ∷ 0 ∷ 16 ∷ 0 ∷ 0 ∷ 0 ∷ 0 ∷ 0 ∷ 0 ∷ 0 ∷ 0 ∷ 64 ∷ 0 ∷ 0 ∷ 0 ∷ 0 ∷ 0 ∷ 0 ∷ 19 ∷ 0 ∷ 0 ∷ 0 ∷ 1 ∷ 0 ∷ 0 ∷ 0 ∷ 0 ∷ 0 ∷ 0 ∷ 0 ∷ 0 ∷ 0 ∷ 0 ∷ 0 ∷ 16 ∷ 0 ∷ 0 ∷ 0 ∷ 0 ∷ 0 ∷ 0 ∷ 0 ∷ 255 ∷ 127 ∷ 0 ∷ 0 ∷ 0 ∷ 0 ∷ 0 ∷ 0 ∷ 8 ∷ 0 ∷ 2 ∷ 0 ∷ 3 ∷ []) 180 104;
-  answer = some (record { number = 8; place = 2 });
-  ranges = [];
-  trials = [];
-  writings = [];
-}
+abbrev pub refuses : ℕ → ℕ → Claim
+refuses n p = reads (Refused (record { number = n; place = p }))
 
--- 9: minus of -32,767..0 is 0..32,767
-abbrev pub case9 : Row
-case9 = record {
-  sheet =
-      block (1 ∷ 0 ∷ 4 ∷ 0 ∷ 1 ∷ 0 ∷ 0 ∷ 0 ∷ 1 ∷ 128 ∷ 0 ∷ 0 ∷ 1 ∷ 0 ∷ 120 ∷ []) 49 12
-      ++ block (17 ∷ 0 ∷ 0 ∷ 0 ∷ 0 ∷ 0 ∷ 0 ∷ 0 ∷ 0 ∷ 0 ∷ 0 ∷ 0 ∷ 0 ∷ 0 ∷ 0 ∷ 0 ∷ 18 ∷ 0 ∷ 0 ∷ 0 ∷ 0 ∷ 0 ∷ 0 ∷ 0 ∷ 0 ∷ 0 ∷ 0 ∷ 0 ∷ 0 ∷ 0 ∷ 0 ∷ 0 ∷ 16 ∷ 0 ∷ 0 ∷ 0 ∷ 0 ∷ 0 ∷ 0 ∷ 0 ∷ 0 ∷ 0 ∷ 0 ∷ 0 ∷ 0 ∷ 0 ∷ 0 ∷ 0 ∷ 10 ∷ 0 ∷ 1 ∷ 0 ∷ 2 ∷ []) 220 5;
-  answer = none;
-  ranges = (0, Integer (negsuc 32766 ⋯ pos 0)) ∷ (1, Integer (pos 0 ⋯ pos 32767)) ∷ [];
-  trials = [];
-  writings = [];
-}
-
--- 10: minus of -32,768..0 gives 8
-abbrev pub case10 : Row
-case10 = record {
-  sheet =
-      block (1 ∷ 0 ∷ 4 ∷ 0 ∷ 1 ∷ 0 ∷ 0 ∷ 0 ∷ 0 ∷ 128 ∷ 0 ∷ 0 ∷ 1 ∷ 0 ∷ 120 ∷ []) 40 12
-      ++ block (17 ∷ 0 ∷ 0 ∷ 0 ∷ 0 ∷ 0 ∷ 0 ∷ 0 ∷ 0 ∷ 0 ∷ 0 ∷ 0 ∷ 0 ∷ 0 ∷ 0 ∷ 0 ∷ 18 ∷ 0 ∷ 0 ∷ 0 ∷ 0 ∷ 0 ∷ 0 ∷ 0 ∷ 0 ∷ 0 ∷ 0 ∷ 0 ∷ 0 ∷ 0 ∷ 0 ∷ 0 ∷ 16 ∷ 0 ∷ 0 ∷ 0 ∷ 0 ∷ 0 ∷ 0 ∷ 0 ∷ 0 ∷ 0 ∷ 0 ∷ 0 ∷ 0 ∷ 0 ∷ 0 ∷ 0 ∷ 10 ∷ 0 ∷ 1 ∷ 0 ∷ 2 ∷ []) 220 5;
-  answer = some (record { number = 8; place = 1 });
-  ranges = [];
-  trials = [];
-  writings = [];
-}
-
--- 11: -3..2 times -4..5 has range -15..12
-abbrev pub case11 : Row
-case11 = record {
-  sheet =
-      block (1 ∷ 0 ∷ 5 ∷ 0 ∷ 2 ∷ 0 ∷ 0 ∷ 0 ∷ 253 ∷ 255 ∷ 2 ∷ 0 ∷ 1 ∷ 0 ∷ 120 ∷ 0 ∷ 0 ∷ 0 ∷ 0 ∷ 0 ∷ 0 ∷ 0 ∷ 0 ∷ 0 ∷ 0 ∷ 0 ∷ 0 ∷ 0 ∷ 0 ∷ 0 ∷ 0 ∷ 0 ∷ 252 ∷ 255 ∷ 5 ∷ 0 ∷ 1 ∷ 0 ∷ 121 ∷ []) 190 111
-      ++ block (17 ∷ 0 ∷ 0 ∷ 0 ∷ 0 ∷ 0 ∷ 0 ∷ 0 ∷ 0 ∷ 0 ∷ 0 ∷ 0 ∷ 0 ∷ 0 ∷ 0 ∷ 0 ∷ 17 ∷ 0 ∷ 1 ∷ 0 ∷ 0 ∷ 0 ∷ 0 ∷ 0 ∷ 0 ∷ 0 ∷ 0 ∷ 0 ∷ 0 ∷ 0 ∷ 0 ∷ 0 ∷ 21 ∷ 0 ∷ 0 ∷ 0 ∷ 1 ∷ 0 ∷ 0 ∷ 0 ∷ 0 ∷ 0 ∷ 0 ∷ 0 ∷ 0 ∷ 0 ∷ 0 ∷ 0 ∷ 16 ∷ 0 ∷ 0 ∷ 0 ∷ 0 ∷ 0 ∷ 0 ∷ 0 ∷ 12 ∷ 0 ∷ 0 ∷ 0 ∷ 0 ∷ 0 ∷ 0 ∷ 0 ∷ 10 ∷ 0 ∷ 2 ∷ 0 ∷ 3 ∷ []) 188 13;
-  answer = none;
-  ranges = (2, Integer (negsuc 14 ⋯ pos 12)) ∷ [];
-  trials = [];
-  writings = [];
-}
-
-abbrev pub table : List Row
-table = worked ∷ case1 ∷ case2 ∷ case3 ∷ case5 ∷ case6 ∷ case7 ∷ case8 ∷ case9 ∷ case10 ∷ case11 ∷ []
-
--- what the definitions give of a row, and what the row says
-module _ (s : List ℕ) where
-  abbrev pub tried : Trial → Trial
-  tried t =
-      let refusal = checkRefusal s (length (t .room)) in
-      let first = firstFailure (ruleIn s) in
-      record {
-        room = t .room;
-        check = verdict refusal first;
-        after = roomAfter refusal first (t .room);
-        tally = (tryRefusal s, unlessRefused (tryRefusal s) (held (ruleIn s)), unlessRefused (tryRefusal s) (failed (ruleIn s)));
-      }
-
-  abbrev pub written : Writing → Writing
-  written w =
-      let refusal = scriptRefusal s (w .size) in
-      record { size = w .size; answer = scriptVerdict refusal (script (ruleIn s)); after = scriptRoom refusal (script (ruleIn s)) (replicate (w .size) 0) }
-
-abbrev pub run : Row → Row
-run r = record {
-  sheet = r .sheet;
-  answer = refusalOf (r .sheet);
-  ranges = map (λ (p : ℕ × Finding). (p .0, findingAt (r .sheet) (p .0))) (r .ranges);
-  trials = map (tried (r .sheet)) (r .trials);
-  writings = map (written (r .sheet)) (r .writings);
-}
+abbrev pub starredCases : List StarredCase
+starredCases =
+    -- the worked check: byte 0 is 1, byte 509 is 255 and the rest zero, stored 13 FC; the check is right, so what is wrong is the node count
+    record { sheet = hex "01" ++ (replicate 508 0 ++ hex "ff 13fc"); claims = refuses 4 0 ∷ [] }
+    -- 1: sheet A
+    ∷ record { sheet = sheetA; claims = reads Accepted ∷ checks (pos 7 ∷ pos 8 ∷ pos 9 ∷ []) Fails (pos 0 ∷ pos 1 ∷ pos 9 ∷ []) ∷ counts 2 2 ∷ writes 235 (Script 234) (scriptA ++ hex "00") ∷ [] }
+    -- 2: no variables, the goal is true
+    ∷ record { sheet = sheetFrom "0100 0100" [] "0500" ("01" ∷ []) "0300"; claims = checks (pos 7 ∷ []) Holds (pos 7 ∷ []) ∷ counts 1 0 ∷ [] }
+    -- 3: the goal is false
+    ∷ record { sheet = sheetFrom "0100 0100" [] "0500" ("02" ∷ []) "0400"; claims = checks (pos 7 ∷ []) Fails (pos 7 ∷ []) ∷ counts 0 1 ∷ [] }
+    -- 5: the constant -1
+    ∷ record { sheet = sheetFrom "0100 0300" [] "0b00" ("1000 0000 0000 0000 ffff" ∷ "1000 0000 0000 0000 ffff" ∷ "0800 0000 0100" ∷ []) "0948"; claims = writes 73 (Script 72) (ascii "(set-logic QF_UFBV)\n(assert (not (= #xffff #xffff)))\n(check-sat)\n(exit)\n" ++ hex "00") ∷ [] }
+    -- 6: the constant -32,768
+    ∷ record { sheet = sheetFrom "0100 0300" [] "0b00" ("1000 0000 0000 0000 0080" ∷ "1000 0000 0000 0000 0080" ∷ "0800 0000 0100" ∷ []) "4f14"; claims = writes 73 (Script 72) (ascii "(set-logic QF_UFBV)\n(assert (not (= #x8000 #x8000)))\n(check-sat)\n(exit)\n" ++ hex "00") ∷ [] }
+    -- 7: 16,384 + 16,383
+    ∷ record { sheet = sheetFrom "0100 0500" [] "1100" ("1000 0000 0000 0000 0040" ∷ "1000 0000 0000 0000 ff3f" ∷ "1300 0000 0100" ∷ "1000 0000 0000 0000 ff7f" ∷ "0800 0200 0300" ∷ []) "8181"; claims = reads Accepted ∷ finds 2 (pos 32767 ⋯ pos 32767) ∷ [] }
+    -- 8: 16,384 + 16,384
+    ∷ record { sheet = sheet8; claims = refuses 8 2 ∷ [] }
+    -- 9: minus of -32,767..0
+    ∷ record { sheet = sheetFrom "0100 0400 01" ("0180 0000 01 00 78" ∷ []) "310c" ("1100 0000" ∷ "1200 0000" ∷ "1000" ∷ "0a00 0100 0200" ∷ []) "dc05"; claims = reads Accepted ∷ finds 0 (negsuc 32766 ⋯ pos 0) ∷ finds 1 (pos 0 ⋯ pos 32767) ∷ [] }
+    -- 10: minus of -32,768..0
+    ∷ record { sheet = sheetFrom "0100 0400 01" ("0080 0000 01 00 78" ∷ []) "280c" ("1100 0000" ∷ "1200 0000" ∷ "1000" ∷ "0a00 0100 0200" ∷ []) "dc05"; claims = refuses 8 1 ∷ [] }
+    -- 11: -3..2 times -4..5
+    ∷ record { sheet = sheet11; claims = reads Accepted ∷ finds 2 (negsuc 14 ⋯ pos 12) ∷ [] }
+    ∷ []

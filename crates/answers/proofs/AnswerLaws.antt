@@ -16,6 +16,7 @@ use Rattle.refusals.specs.declared.Refusal.{Refusal}
 use Rattle.numbers.specs.Bytes.{Bytes}
 use Rattle.meaning.specs.Cases.{firstFailure, held, failed}
 use Rattle.meaning.proofs.Failures.{first-fails}
+use Rattle.layout.specs.Limits.{mostVariables}
 use Rattle.layout.specs.Parts.{variableCount, ruleIn}
 use Rattle.layout.proofs.PartLaws.{variable-total}
 use Rattle.refusals.specs.declared.Reading.{Reading}
@@ -112,24 +113,24 @@ module _ (s : List ℕ) where
         go none e p g = absurd (Option·some-ne-none r (ap refusalIn p))
         go (some q) e p g = (g, refused _ (e ∙ sym (ap refusalIn p)))
 
-  -- ---- the check: a row of 16 numbers is always enough
+  -- ---- the check: a row of a number for each variable is always enough
   case-length : {c : List ℤ} → firstFailure (ruleIn s) ≡ some c → length c ≡ variableCount s
   case-length q = first-fails (ruleIn s) q .0 .all ∙ variable-total s
 
-  module _ {after : List ℤ} {a : Checked} (w : Checks s (replicate 16 (pos 0)) a after) where
-    check-refusal : checkRefusal s 16 ≡ tryRefusal s
+  module _ {after : List ℤ} {a : Checked} (w : Checks s (replicate mostVariables (pos 0)) a after) where
+    check-refusal : checkRefusal s mostVariables ≡ tryRefusal s
     unfolding checkRefusal
     check-refusal = go (tryRefusal s) refl
       where
-        go : (o : Option Refusal) → tryRefusal s ≡ o → checkRefusal s 16 ≡ tryRefusal s
+        go : (o : Option Refusal) → tryRefusal s ≡ o → checkRefusal s mostVariables ≡ tryRefusal s
         go (some r) e = otherwise-some _ e ∙ sym e
-        go none e = passes (variableCount s) 16 9 (variableCount s) e (tried-inside s e .1) ∙ sym e
+        go none e = passes (variableCount s) mostVariables 9 (variableCount s) e (tried-inside s e .1) ∙ sym e
 
     -- what the check says, by the refusal and the first failing case
     said : {t : Checked} → a ≡ t → checkedSaid t ≡ verdict (tryRefusal s) (firstFailure (ruleIn s))
     said d = sym (ap checkedSaid d) ∙ w .answer ∙ rw check-refusal
 
-    row-is : after ≡ roomAfter (tryRefusal s) (firstFailure (ruleIn s)) (replicate 16 (pos 0))
+    row-is : after ≡ roomAfter (tryRefusal s) (firstFailure (ruleIn s)) (replicate mostVariables (pos 0))
     row-is = w .room ∙ rw check-refusal
 
     pub check-refused : {r : Refusal} → a ≡ checkRefused r → refusalLine r ≡ answerText Check s
@@ -168,7 +169,7 @@ module _ (s : List ℕ) where
       case-is =
           let k = found d in
           let c = k .case in
-          let g : after ≡ c ++ drop (length c) (replicate 16 (pos 0)) = row-is ∙ rw (k .tried, k .first) in
+          let g : after ≡ c ++ drop (length c) (replicate mostVariables (pos 0)) = row-is ∙ rw (k .tried, k .first) in
           ap (take (variableCount s)) g ∙ take-at c _ (variableCount s) (case-length (k .first))
 
       pub settled : Bytes s → Settled s after

@@ -7,6 +7,7 @@ ghost use Rattle.writer.specs.Writes.{enoughRoom};
 ghost use Rattle.answers.specs.Answers.{answerText};
 ghost use Rattle.answers.specs.declared.Request.the-variants.{Read, Script, Check, Tally};
 use cases::Checked;
+use layout::MOST_VARIABLES;
 use refusals::Reading;
 use writer::Written;
 
@@ -45,7 +46,7 @@ fn check_answer(sheet: &[u8], room: &mut [u8]) -> usize
     requires { ⌜ enoughRoom ≤ length (now room) ⌝ }
     ensures { λ r. ⌜ Wrote (answerText Check (now (sheet .entry))) (now (room .entry)) (now (room .exit)) 0 r ⌝ }
 {
-    let mut row = [0i16; 16];
+    let mut row = [0i16; MOST_VARIABLES];
     match cases::check(sheet, &mut row) {
         Checked::Holds => room::put(room, 0, b"holds\n"),
         Checked::Fails => phrases::fails_line(sheet, &row, room),

@@ -8,6 +8,7 @@ use lib.Dec.{ltb, lit<, lit≤}
 use lib.IntN.{ℤ}
 use borrow.Author.Tests.{ltb-true, not-true}
 use Rattle.lists.specs.Ascii.{ascii}
+use Rattle.lists.specs.Joined.{joined}
 use Rattle.lists.specs.Names.{sameBytes, listed}
 use Rattle.lists.specs.Places.{allBelow}
 use Rattle.lists.proofs.TestLaws.{both, and, all-true}
@@ -33,7 +34,7 @@ use Rattle.smtlib.proofs.Spelling.{spelled-symbol, spelled-reserved, spelled-nu
 use Rattle.wording.specs.Words.{wordOf}
 use Rattle.wording.specs.Text.{textBy, textStep, text}
 use Rattle.wording.specs.Sixteen.{hexDigit, hexText, literal, symbolText}
-use Rattle.wording.specs.Script.{claims, declaration, declarations, assertion, linesOf, joined}
+use Rattle.wording.specs.Script.{claims, declaration, declarations, assertion, linesOf, ended}
 use Rattle.forms.proofs.Sexps.{sexpBy, sexpStep, sexp, declareSexp, declareChain, assertChain, chainOf, constant16, width16}
 
 -- ---- words
@@ -80,15 +81,13 @@ word-spelled k q =
 
 -- each line is the print of its s-expression; a record, so that both are found from it
 record Prints (ls : List (List ℕ)) (s : Sexp) : Type 0 where
-  are : joined ls ≡ lines s
+  are : joined ended ls ≡ lines s
 
 none-printed : Prints [] nil
-unfolding joined
 none-printed = record { are = refl }
 
 line-printed : {l : List ℕ} {e : Sexp} {ls : List (List ℕ)} {s : Sexp} → l ≡ print e → Prints ls s → Prints (l ∷ ls) (cons e s)
-unfolding joined
-line-printed {l} {e} {ls} p q = record { are = append-assoc l (ascii "\n") (joined ls) ∙ rw (p, q .are) }
+line-printed {l} {e} {ls} p q = record { are = append-assoc l (ascii "\n") (joined ended ls) ∙ rw (p, q .are) }
 
 module _ (constant : ℤ → Atom) (name : ℕ → List ℕ) where
   -- ---- the text
@@ -129,7 +128,7 @@ module _ (constant : ℤ → Atom) (name : ℕ → List ℕ) where
       assertions-printed (t ∷ ts) p = line-printed (rw (text-printed t)) (assertions-printed ts p)
 
       -- of the whole
-      pub lines-printed : (r : Rule) → joined (linesOf literal name widthBytes r) ≡ lines (chainOf constant name width r)
+      pub lines-printed : (r : Rule) → joined ended (linesOf literal name widthBytes r) ≡ lines (chainOf constant name width r)
       lines-printed r =
           let end = line-printed refl (line-printed refl none-printed) in
           let whole : Prints (linesOf literal name widthBytes r) (chainOf constant name width r) = line-printed refl (declarations-printed 0 (r .variables) (assertions-printed (claims 0 (r .variables) (r .goal)) end)) in

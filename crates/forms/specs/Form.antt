@@ -14,7 +14,8 @@ use Rattle.smtlib.specs.Theory.{theoryName}
 use Rattle.smtlib.specs.Terms.{Environment, numberOf, value}
 use Rattle.smtlib.specs.Scripts.{solverName}
 use Rattle.smtlib.specs.Spelling.{digitByte, spelling, Spelled}
-use Rattle.wording.specs.Script.{linesOf, joined}
+use Rattle.lists.specs.Joined.{joined}
+use Rattle.wording.specs.Script.{linesOf, ended}
 
 -- what the atoms of constants, the names of up to m variables and the digits of the width stand for
 pub record Texts (constant : ℤ → Atom) (name : ℕ → List ℕ) (digits : List ℕ) (m : ℕ) : Type 0 where
@@ -37,4 +38,4 @@ pub record Form (literal : ℤ → List ℕ) (name : ℕ → List ℕ) (digits :
 
 -- the script in a form
 abbrev pub scriptBy : (ℤ → List ℕ) → (ℕ → List ℕ) → List ℕ → Rule → List ℕ
-scriptBy literal name digits r = joined (linesOf literal name (map digitByte digits) r)
+scriptBy literal name digits r = joined ended (linesOf literal name (map digitByte digits) r)

@@ -10,8 +10,10 @@ use borrow.Author.Tests.{eq-eqb}
 use lib.Dec.{lit<}
 use lib.ListN.{length, take, drop}
 use Rattle.lists.specs.Places.{at, from}
+use Rattle.lists.specs.Joined.{joined}
 use Rattle.lists.specs.Run.{Run}
 use Rattle.lists.proofs.RunLaws.{run-split, run-all, stands-of, stands-from, shift, from-same, take-from, drop-from}
+use Rattle.lists.proofs.JoinedLaws.{length-joined}
 use Rattle.numbers.specs.Bytes.{byteAt, pair, Bytes}
 use Rattle.meaning.specs.Rule.{Variable, Rule, noVariable}
 use Rattle.kinds.specs.declared.Kind.the-variants.{Unknown}
@@ -22,11 +24,11 @@ use Rattle.layout.specs.Goal.{goalOf}
 use Rattle.layout.specs.Nodes.{node, nodesOf}
 use Rattle.layout.specs.Parts.{nodeCount, variableCount, variableAt, table, ruleIn}
 use Rattle.layout.specs.LaidOut.{Sound, Zeros, VariableLaidOut, LaidOut}
-use Rattle.layout.specs.Sheet.{recordBytes, variableRecord, joined, filled, firstContent, nodeContent, contentsOf, sheetOf}
+use Rattle.layout.specs.Sheet.{recordBytes, variableRecord, filled, firstContent, nodeContent, contentsOf, sheetOf}
 use Rattle.layout.specs.WellFormed.{WellFormed}
 use Rattle.layout.proofs.Backward.{table-sound, table-goal, table-words}
 use Rattle.layout.proofs.SealLaws.{content-is}
-use Rattle.layout.proofs.Written.{bytes-cons, bytes-append, bytes-pair, bytes-joined, bytes-filled, bytes-sealed, bytes-variable, bytes-record, length-filled, length-joined, length-sealed, length-variable}
+use Rattle.layout.proofs.Written.{bytes-cons, bytes-append, bytes-pair, bytes-joined, bytes-filled, bytes-sealed, bytes-variable, bytes-record, length-filled, length-sealed, length-variable}
 use Rattle.layout.proofs.Unseal.{Block, pair-of, filled-of, split-joined, split-sealed, record-of, variable-of}
 
 abbrev none : Record

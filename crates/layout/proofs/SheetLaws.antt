@@ -7,6 +7,7 @@ use native.Mathlib.Numerals.{add-one}
 use native.Mathlib.Omega.{arith}
 use lib.ListN.{length, replicate, length-take, length-drop}
 use Rattle.lists.specs.Places.{from}
+use Rattle.lists.specs.Joined.{joined}
 use Rattle.lists.specs.Run.{Run}
 use Rattle.lists.proofs.RunLaws.{run-append, run-one, run-part, shift, length-from, from-same, take-from, drop-from}
 use Rattle.numbers.specs.Two.{enc}
@@ -20,7 +21,7 @@ use Rattle.layout.specs.Checks.{content, sealed}
 use Rattle.layout.specs.Starts.{shapeAt}
 use Rattle.layout.specs.Parts.{nodeCount, variableCount, nameSize, nameIn, variableIn, variableAt, recordIn, table, ruleIn}
 use Rattle.layout.specs.LaidOut.{Zeros, VariableLaidOut, LaidOut}
-use Rattle.layout.specs.Sheet.{recordBytes, variableRecord, joined, filled, firstContent, nodeContent, contentsOf, sheetOf}
+use Rattle.layout.specs.Sheet.{recordBytes, variableRecord, filled, firstContent, nodeContent, contentsOf, sheetOf}
 use Rattle.kinds.proofs.KindLaws.{kind-byte}
 use Rattle.layout.proofs.PartLaws.{words}
 use Rattle.layout.proofs.Forward.{records-are}

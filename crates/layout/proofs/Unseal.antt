@@ -8,6 +8,7 @@ use native.Mathlib.Omega.{arith}
 use lib.Dec.{lit<}
 use lib.ListN.{length, getD, replicate, length-append, length-replicate, getD-replicate}
 use Rattle.lists.specs.Places.{from}
+use Rattle.lists.specs.Joined.{joined}
 use Rattle.lists.specs.Run.{Run}
 use Rattle.lists.proofs.RunLaws.{run-split, part-is, stands-at, shift}
 use Rattle.numbers.specs.Two.{enc, dec}
@@ -23,7 +24,7 @@ use Rattle.layout.specs.Checks.{checkOf, storedCheck, sealed}
 use Rattle.layout.specs.Starts.{shapeAt}
 use Rattle.layout.specs.Parts.{nameSize, nameIn, variableIn, recordIn}
 use Rattle.layout.specs.LaidOut.{Zeros, VariableLaidOut}
-use Rattle.layout.specs.Sheet.{recordBytes, variableRecord, joined, filled}
+use Rattle.layout.specs.Sheet.{recordBytes, variableRecord, filled}
 use Rattle.layout.specs.WellFormed.{FineVariable}
 use Rattle.kinds.proofs.KindLaws.{byte-names}
 

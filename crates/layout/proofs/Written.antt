@@ -8,6 +8,7 @@ use lib.Dec.{lit<}
 use lib.ListN.{length, take, drop, replicate, length-append, length-replicate}
 use lib.Seq.{getD-drop}
 use Rattle.lists.specs.Places.{from}
+use Rattle.lists.specs.Joined.{joined}
 use Rattle.numbers.specs.Two.{enc}
 use Rattle.numbers.specs.Bytes.{pair, Bytes}
 use Rattle.numbers.proofs.Bytes16.{enc16-lt}
@@ -20,7 +21,7 @@ use Rattle.layout.specs.Limits.{blockBytes, contentBytes, variableBytes,
 use Rattle.layout.specs.Checks.{checkOf, sealed}
 use Rattle.layout.specs.Starts.{shapeAt, operandsOf, VariableBelow}
 use Rattle.layout.specs.LaidOut.{unusedOf, Placed}
-use Rattle.layout.specs.Sheet.{recordBytes, variableRecord, joined, filled}
+use Rattle.layout.specs.Sheet.{recordBytes, variableRecord, filled}
 use Rattle.layout.specs.WellFormed.{FineVariable}
 use Rattle.kinds.proofs.KindLaws.{byte-small}
 use Rattle.layout.proofs.StartLaws.{Before, lower}
@@ -110,13 +111,6 @@ bytes-record {f} {v} {n} p h k w =
 -- ---- lengths
 pub length-filled : (l : List ℕ) → length l ≤ contentBytes → length (filled l) ≡ contentBytes
 length-filled l h = rw (length-append, length-replicate) (omega arith)
-
-pub length-joined : {A : Type 0} (g : A → List ℕ) (f : ℕ → A) (w m i : ℕ) → ((j : ℕ) → i ≤ j → j < i + m → length (g (f j)) ≡ w) → length (joined g (from f i m)) ≡ w * m
-length-joined g f w zero i h = sym (mul-zero w)
-length-joined g f w (suc m) i h =
-    let p = h i (omega arith) (omega arith) in
-    let q = length-joined g f w m (suc i) (λ j k l. h j (omega arith) (omega arith)) in
-    rw (length-append, mul-suc) (omega arith)
 
 pub length-sealed : (c : ℕ → List ℕ) → ((j : ℕ) → length (c j) ≡ contentBytes) → (m k : ℕ) → length (sealed k (from c k m)) ≡ blockBytes * m
 unfolding sealed

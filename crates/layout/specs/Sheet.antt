@@ -3,6 +3,7 @@ use Prim.Native.Nat.{ℕ, _-_, _*_}
 use mathlib.Core.List.{List, [], _∷_, _++_}
 use lib.ListN.{length, take, drop, replicate}
 use Rattle.lists.specs.Places.{from}
+use Rattle.lists.specs.Joined.{joined}
 use Rattle.numbers.specs.Two.{enc}
 use Rattle.numbers.specs.Bytes.{pair}
 use Rattle.meaning.specs.Rule.{Variable, Rule}
@@ -19,10 +20,6 @@ recordBytes r = (row (r .kind) .byte ∷ 0 ∷ []) ++ (pair (r .a) ++ (pair (r .
 -- a variable's record
 abbrev pub variableRecord : Variable → List ℕ
 variableRecord v = pair (enc 16 (v .domain .low)) ++ (pair (enc 16 (v .domain .high)) ++ ((length (v .name) ∷ 0 ∷ []) ++ (v .name ++ replicate (nameField - length (v .name)) 0)))
-
-abbrev pub joined : {A : Type 0} → (A → List ℕ) → List A → List ℕ
-joined g [] = []
-joined g (x ∷ xs) = g x ++ joined g xs
 
 -- a block's content: the bytes, and zeros up to the check
 abbrev pub filled : List ℕ → List ℕ

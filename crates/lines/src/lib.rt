@@ -2,25 +2,50 @@
 ghost use mathlib.Core.Path.{_≡_};
 ghost use Prim.Native.Nat.{_+_, _≤_, _<_};
 ghost use lib.ListN.{length};
+ghost use Rattle.lists.specs.Joined.{joinedBelow};
 ghost use Rattle.layout.specs.Limits.{blockBytes, mostVariables};
-ghost use Rattle.room.specs.Room.{Wrote, texts};
-ghost use Rattle.lines.specs.Lines.{declarationLine, rangeStart, rangeEnd, rangeLine, declarationBytes, startBytes, endBytes, rangeBytes, variablesLength};
+ghost use Rattle.wording.specs.Sixteen.{symbolText};
+ghost use Rattle.room.specs.Room.{Wrote};
+ghost use Rattle.pieces.specs.Sizes.{longestSymbol};
+ghost use Rattle.lines.specs.Lines.{declarationLine, rangeStart, rangeEnd, rangeLine, declarationBytes, startBytes, endBytes, rangeBytes, linesBytes, LinesSize};
 use numbers::VariableNumber;
+use pieces::BLANK;
+use pieces::CONSTANT_BYTES;
+
+// The texts that stand around symbols and constants.
+const DECLARE: [u8; 13] = *b"(declare-fun ";
+
+const SORTED: [u8; 19] = *b" () (_ BitVec 16))\n";
+
+const LOWEST: [u8; 20] = *b"(assert (and (bvsle ";
+
+const HIGHEST: [u8; 9] = *b") (bvsle ";
+
+const CLOSED: [u8; 4] = *b")))\n";
+
+// The bytes of a variable's two lines, but for its symbol, which stands three times in them.
+const PLAIN_BYTES: usize = DECLARE.len()
+    + SORTED.len()
+    + LOWEST.len()
+    + HIGHEST.len()
+    + 2 * BLANK.len()
+    + 2 * CONSTANT_BYTES
+    + CLOSED.len();
 
 // A variable's declaration line.
 fn declaration(room: &mut [u8], at: usize, n: VariableNumber) -> usize
-    requires { ⌜ (n .0 < mostVariables) × (at + declarationBytes (n .0) ≤ length (now room)) ⌝ }
+    requires { ⌜ (n .0 < mostVariables) × (at + declarationBytes (length (symbolText (n .0))) ≤ length (now room)) ⌝ }
     ensures { λ r. ⌜ Wrote (declarationLine (n .0)) (now (room .entry)) (now (room .exit)) at r ⌝ }
 {
-    let p = room::put(room, at, b"(declare-fun ");
+    let p = room::put(room, at, &DECLARE);
     let q = pieces::symbol(room, p, n);
-    room::put(room, q, b" () (_ BitVec 16))\n")
+    room::put(room, q, &SORTED)
 }
 
 // The declaration lines of the first variables.
 pub fn declarations(room: &mut [u8], at: usize, count: usize) -> usize
-    requires { ⌜ (count ≤ mostVariables) × (at + length (texts declarationLine count) ≤ length (now room)) ⌝ }
-    ensures { λ r. ⌜ Wrote (texts declarationLine count) (now (room .entry)) (now (room .exit)) at r ⌝ }
+    requires { ⌜ (count ≤ mostVariables) × (at + length (joinedBelow declarationLine count) ≤ length (now room)) ⌝ }
+    ensures { λ r. ⌜ Wrote (joinedBelow declarationLine count) (now (room .entry)) (now (room .exit)) at r ⌝ }
 {
     let mut next = at;
     let mut i: usize = 0;
@@ -33,30 +58,30 @@ pub fn declarations(room: &mut [u8], at: usize, count: usize) -> usize
 
 // A range line up to its first symbol, with the lower end by its bits.
 fn range_start(room: &mut [u8], at: usize, n: VariableNumber, low: u16) -> usize
-    requires { ⌜ (n .0 < mostVariables) × (at + startBytes (n .0) ≤ length (now room)) ⌝ }
+    requires { ⌜ (n .0 < mostVariables) × (at + startBytes (length (symbolText (n .0))) ≤ length (now room)) ⌝ }
     ensures { λ r. ⌜ Wrote (rangeStart low (n .0)) (now (room .entry)) (now (room .exit)) at r ⌝ }
 {
-    let p = room::put(room, at, b"(assert (and (bvsle ");
+    let p = room::put(room, at, &LOWEST);
     let q = pieces::constant_from(room, p, low);
-    let r = room::put(room, q, b" ");
+    let r = room::put(room, q, &BLANK);
     pieces::symbol(room, r, n)
 }
 
 // The rest of a range line, with the upper end by its bits.
 fn range_end(room: &mut [u8], at: usize, n: VariableNumber, high: u16) -> usize
-    requires { ⌜ (n .0 < mostVariables) × (at + endBytes (n .0) ≤ length (now room)) ⌝ }
+    requires { ⌜ (n .0 < mostVariables) × (at + endBytes (length (symbolText (n .0))) ≤ length (now room)) ⌝ }
     ensures { λ r. ⌜ Wrote (rangeEnd (n .0) high) (now (room .entry)) (now (room .exit)) at r ⌝ }
 {
-    let p = room::put(room, at, b") (bvsle ");
+    let p = room::put(room, at, &HIGHEST);
     let q = pieces::symbol(room, p, n);
-    let r = room::put(room, q, b" ");
+    let r = room::put(room, q, &BLANK);
     let s = pieces::constant_from(room, r, high);
-    room::put(room, s, b")))\n")
+    room::put(room, s, &CLOSED)
 }
 
 // A variable's range line.
 fn range_line(sheet: &[u8], room: &mut [u8], at: usize, n: VariableNumber) -> usize
-    requires { ⌜ (blockBytes ≤ length (now sheet)) × (n .0 < mostVariables) × (at + rangeBytes (n .0) ≤ length (now room)) ⌝ }
+    requires { ⌜ (blockBytes ≤ length (now sheet)) × (n .0 < mostVariables) × (at + rangeBytes (length (symbolText (n .0))) ≤ length (now room)) ⌝ }
     ensures { λ r. ⌜ Wrote (rangeLine (now (sheet .entry)) (n .0)) (now (room .entry)) (now (room .exit)) at r ⌝ }
 {
     let place = records::variable_place(n);
@@ -68,26 +93,35 @@ fn range_line(sheet: &[u8], room: &mut [u8], at: usize, n: VariableNumber) -> us
 
 // The range lines of the first variables.
 pub fn range_lines(sheet: &[u8], room: &mut [u8], at: usize, count: usize) -> usize
-    requires { ⌜ (blockBytes ≤ length (now sheet)) × (count ≤ mostVariables) × (at + length (texts (rangeLine (now sheet)) count) ≤ length (now room)) ⌝ }
-    ensures { λ r. ⌜ Wrote (texts (rangeLine (now (sheet .entry))) count) (now (room .entry)) (now (room .exit)) at r ⌝ }
+    requires { ⌜ (blockBytes ≤ length (now sheet)) × (count ≤ mostVariables) × (at + length (joinedBelow (rangeLine (now sheet)) count) ≤ length (now room)) ⌝ }
+    ensures { λ r. ⌜ Wrote (joinedBelow (rangeLine (now (sheet .entry))) count) (now (room .entry)) (now (room .exit)) at r ⌝ }
 {
     let mut next = at;
-    let mut i: usize = 0;
-    while i < count {
-        next = range_line(sheet, room, next, VariableNumber(i as u16));
-        i += 1;
+    let mut variable: usize = 0;
+    while variable < count {
+        next = range_line(sheet, room, next, VariableNumber(variable as u16));
+        variable += 1;
     }
     next
 }
 
-// The length of both lines of the first variables: 34 and 51 bytes each, from variable 10 on 35 and 53.
+// The length of both lines of a variable.
+fn lines_len(n: VariableNumber) -> usize
+    ensures { λ r. ⌜ r ≡ linesBytes (length (symbolText (n .0))) × (r ≤ linesBytes longestSymbol) ⌝ }
+{
+    PLAIN_BYTES + 3 * pieces::symbol_len(n)
+}
+
+// The length of both lines of the first variables.
 pub fn variables_len(count: usize) -> usize
     requires { ⌜ count ≤ mostVariables ⌝ }
-    ensures { λ r. ⌜ r ≡ variablesLength count ⌝ }
+    ensures { λ r. ⌜ LinesSize count r ⌝ }
 {
-    if count <= 10 {
-        85 * count
-    } else {
-        850 + 88 * (count - 10)
+    let mut size = 0;
+    let mut i: usize = 0;
+    while i < count {
+        size += lines_len(VariableNumber(i as u16));
+        i += 1;
     }
+    size
 }

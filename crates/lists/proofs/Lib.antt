@@ -5,4 +5,5 @@ pub mod BelowLaws
 pub mod Decided
 pub mod FirstLaws
 pub mod PartLaws
+pub mod JoinedLaws
 pub mod NameLaws

@@ -4,5 +4,6 @@ pub mod Course
 pub mod First
 pub mod Part
 pub mod Ascii
+pub mod Joined
 pub mod Names
 pub mod Few

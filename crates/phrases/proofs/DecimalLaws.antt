@@ -12,6 +12,7 @@ use mir.Syntax.{w64}
 use mir.Val.{Fits}
 use Rattle.io.specs.Digits.{glyph, digits, Fewest}
 use Rattle.phrases.specs.Phrases.{decimalIn, decimal}
+use Rattle.phrases.specs.Sizes.{longestDecimal}
 
 -- ---- the first digit alone, and one digit more
 one-digit : (f : ℕ) {n : ℕ} → n < 10 → decimalIn (suc f) n ≡ (48 + n) ∷ []
@@ -75,9 +76,9 @@ short-in (suc k) (suc f) n h =
     ]
 
 -- a number of 64 bits has at most 20 digits, one of 16 at most 5
-pub decimal-20 : {n : ℕ} → Fits w64 n → length (decimal n) ≤ 20
+pub decimal-short : {n : ℕ} → Fits w64 n → length (decimal n) ≤ longestDecimal
 unfolding decimal
-decimal-20 {n} f =
+decimal-short {n} f =
     let h : n < 18446744073709551616 = f .fits in
     short-in 19 (suc n) n (omega arith)
 

@@ -16,6 +16,7 @@ use Rattle.numbers.proofs.Zed.{zed, side, pos-ud, negsuc-ud, sub-ud, abs-ud}
 use Rattle.numbers.proofs.OrderTests.{ltZ-true, ltZ-false}
 use Rattle.numbers.proofs.Fit.{narrow-ud, narrow-of-i16, i16-fits, minus-fits}
 use Rattle.phrases.specs.Phrases.{decimal, signed}
+use Rattle.phrases.specs.Sizes.{longestSigned}
 use Rattle.phrases.proofs.DecimalLaws.{decimal-5}
 
 -- ---- by its sign
@@ -29,7 +30,7 @@ unfolding signed
 above (pos n) l = refl
 above (negsuc n) l = absurd (omega (zed, negsuc-ud n, pos-ud 0))
 
-short : (z : ℤ) → natAbs z < 65536 → length (signed z) ≤ 6
+short : (z : ℤ) → natAbs z < 65536 → length (signed z) ≤ longestSigned
 unfolding signed
 short (pos n) b = omega (arith, decimal-5 n b)
 short (negsuc n) b = omega (arith, decimal-5 (suc n) b)
@@ -91,7 +92,7 @@ module _ {z : ℤ} (f : SFits w16 z) where
     pub plain-length : ltZ (kept z) (pos 0) ≡ false → length (signed z) ≡ length (decimal n)
     plain-length t = sym (ap length (plain-text t))
 
-  pub signed-short : length (signed (kept z)) ≤ 6
+  pub signed-short : length (signed (kept z)) ≤ longestSigned
   signed-short =
       let b : natAbs z < 65536 = omega (arith, abs-ud z, narrow-ud (narrow-of-i16 f)) in
       rw kept-is (short z b)

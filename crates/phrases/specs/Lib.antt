@@ -1,2 +1,3 @@
 pub mod Phrases
+pub mod Sizes
 pub mod Pieces

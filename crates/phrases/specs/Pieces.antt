@@ -6,11 +6,11 @@ use mathlib.Core.Option.{none}
 use lib.IntN.{ℤ, pos}
 use lib.ListN.{length, getD}
 use Rattle.lists.specs.Ascii.{ascii}
+use Rattle.lists.specs.Joined.{joinedBelow}
 use Rattle.numbers.specs.Ranges.{Narrow}
 use Rattle.layout.specs.Limits.{mostNameBytes}
 use Rattle.layout.specs.Parts.{variableCount, variableAt}
 use Rattle.reading.specs.Cascade.{refusalOf}
-use Rattle.room.specs.Room.{texts}
 use Rattle.phrases.specs.Phrases.{nameValue}
 
 -- the bytes are variable i's name, at most 16 of them
@@ -29,7 +29,7 @@ nameValueAt s row i = nameValue (variableAt s i .name) (getD row i (pos 0))
 
 -- those of the first n variables
 unfoldable pub nameValuesAt : List ℕ → List ℤ → ℕ → List ℕ
-nameValuesAt s row n = texts (nameValueAt s row) n
+nameValuesAt s row n = joinedBelow (nameValueAt s row) n
 
 -- the line of a check that fails with the row's values
 unfoldable pub failsLine : List ℕ → List ℤ → List ℕ

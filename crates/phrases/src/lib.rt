@@ -1,15 +1,17 @@
 // The phrases of an answer, written into lent room: numbers in decimal, a refusal, a failing case.
 ghost use mathlib.Core.Path.{_≡_};
 ghost use mathlib.Core.Option.{none};
-ghost use Prim.Native.Nat.{_+_, _≤_, _<_};
+ghost use Prim.Native.Nat.{_+_, _*_, _≤_, _<_};
 ghost use lib.IntN.{natAbs};
 ghost use lib.ListN.{length};
+ghost use Rattle.layout.specs.Limits.{mostVariables};
 ghost use Rattle.layout.specs.Parts.{variableCount, variableAt};
 ghost use Rattle.reading.specs.Cascade.{refusalOf};
 ghost use Rattle.room.specs.Room.{Wrote};
-ghost use Rattle.writer.specs.Writes.{enoughRoom};
 ghost use Rattle.phrases.specs.Phrases.{decimal, signed, numbersLine, refusalLine, nameValue};
+ghost use Rattle.phrases.specs.Sizes.{longestNumbers, longestRefusal, longestNameValue, longestFails};
 ghost use Rattle.phrases.specs.Pieces.{Named, Settled, nameValuesAt, failsLine};
+use layout::MOST_VARIABLES;
 use numbers::VariableNumber;
 use refusals::Refusal;
 
@@ -50,7 +52,7 @@ fn put_signed(room: &mut [u8], at: usize, z: i16) -> usize
 
 // A line of two numbers, each behind its word, to the front of the room.
 pub fn numbers_line(room: &mut [u8], first: &[u8], m: u64, second: &[u8], n: u64) -> usize
-    requires { ⌜ length (now first) + length (now second) + 41 ≤ length (now room) ⌝ }
+    requires { ⌜ longestNumbers (length (now first)) (length (now second)) ≤ length (now room) ⌝ }
     ensures { λ r. ⌜ Wrote (numbersLine (now (first .entry)) m (now (second .entry)) n) (now (room .entry)) (now (room .exit)) 0 r ⌝ }
 {
     let p = room::put(room, 0, first);
@@ -62,7 +64,7 @@ pub fn numbers_line(room: &mut [u8], first: &[u8], m: u64, second: &[u8], n: u64
 
 // The line of a refusal, to the front of the room.
 pub fn refused_line(room: &mut [u8], refusal: Refusal) -> usize
-    requires { ⌜ enoughRoom ≤ length (now room) ⌝ }
+    requires { ⌜ longestRefusal ≤ length (now room) ⌝ }
     ensures { λ r. ⌜ Wrote (refusalLine refusal) (now (room .entry)) (now (room .exit)) 0 r ⌝ }
 {
     numbers_line(
@@ -84,8 +86,8 @@ fn name_of(sheet: &[u8], n: VariableNumber) -> &[u8]
 
 // A variable's name and its value.
 fn put_name_value(sheet: &[u8], n: VariableNumber, z: i16, room: &mut [u8], at: usize) -> usize
-    requires { ⌜ (refusalOf (now sheet) ≡ none) × (n .0 < variableCount (now sheet)) × (at + 24 ≤ length (now room)) ⌝ }
-    ensures { λ r. ⌜ Wrote (nameValue (variableAt (now (sheet .entry)) (n .0) .name) z) (now (room .entry)) (now (room .exit)) at r × (r ≤ at + 24) ⌝ }
+    requires { ⌜ (refusalOf (now sheet) ≡ none) × (n .0 < variableCount (now sheet)) × (at + longestNameValue ≤ length (now room)) ⌝ }
+    ensures { λ r. ⌜ Wrote (nameValue (variableAt (now (sheet .entry)) (n .0) .name) z) (now (room .entry)) (now (room .exit)) at r × (r ≤ at + longestNameValue) ⌝ }
 {
     let name = name_of(sheet, n);
     let p = room::put(room, at, b" ");
@@ -95,9 +97,15 @@ fn put_name_value(sheet: &[u8], n: VariableNumber, z: i16, room: &mut [u8], at: 
 }
 
 // Those of the first variables, by a row of values.
-fn put_name_values(sheet: &[u8], row: &[i16; 16], count: usize, room: &mut [u8], at: usize) -> usize
-    requires { ⌜ Settled (now sheet) (now row) × (count ≤ variableCount (now sheet)) × (at + 384 ≤ length (now room)) ⌝ }
-    ensures { λ r. ⌜ Wrote (nameValuesAt (now (sheet .entry)) (now (row .entry)) count) (now (room .entry)) (now (room .exit)) at r × (r ≤ at + 384) ⌝ }
+fn put_name_values(
+    sheet: &[u8],
+    row: &[i16; MOST_VARIABLES],
+    count: usize,
+    room: &mut [u8],
+    at: usize,
+) -> usize
+    requires { ⌜ Settled (now sheet) (now row) × (count ≤ variableCount (now sheet)) × (at + longestNameValue * mostVariables ≤ length (now room)) ⌝ }
+    ensures { λ r. ⌜ Wrote (nameValuesAt (now (sheet .entry)) (now (row .entry)) count) (now (room .entry)) (now (room .exit)) at r × (r ≤ at + longestNameValue * mostVariables) ⌝ }
 {
     let mut next = at;
     let mut i: usize = 0;
@@ -109,8 +117,8 @@ fn put_name_values(sheet: &[u8], row: &[i16; 16], count: usize, room: &mut [u8],
 }
 
 // The line of a check that fails with the row's values.
-pub fn fails_line(sheet: &[u8], row: &[i16; 16], room: &mut [u8]) -> usize
-    requires { ⌜ Settled (now sheet) (now row) × (enoughRoom ≤ length (now room)) ⌝ }
+pub fn fails_line(sheet: &[u8], row: &[i16; MOST_VARIABLES], room: &mut [u8]) -> usize
+    requires { ⌜ Settled (now sheet) (now row) × (longestFails ≤ length (now room)) ⌝ }
     ensures { λ r. ⌜ Wrote (failsLine (now (sheet .entry)) (now (row .entry))) (now (room .entry)) (now (room .exit)) 0 r ⌝ }
 {
     let count = header::variable_count(sheet);

@@ -13,6 +13,13 @@ ghost use Rattle.pieces.specs.Spelling.{Spells};
 use kinds::Kind;
 use numbers::VariableNumber;
 
+// What stands around words and operands.
+pub const OPEN: [u8; 1] = *b"(";
+
+pub const BLANK: [u8; 1] = *b" ";
+
+pub const CLOSE: [u8; 1] = *b")";
+
 // The bytes of a constant.
 pub const CONSTANT_BYTES: usize = 6;
 
@@ -66,10 +73,10 @@ pub fn put_word(room: &mut [u8], at: usize, kind: Kind) -> usize
 
 // The opening parenthesis and a kind's word, to the front of the room.
 pub fn head(room: &mut [u8], kind: Kind) -> usize
-    requires { ⌜ 1 + length (wordOf kind) ≤ length (now room) ⌝ }
+    requires { ⌜ length (ascii "(" ++ wordOf kind) ≤ length (now room) ⌝ }
     ensures { λ r. ⌜ Wrote (ascii "(" ++ wordOf kind) (now (room .entry)) (now (room .exit)) 0 r ⌝ }
 {
-    let next = room::put(room, 0, b"(");
+    let next = room::put(room, 0, &OPEN);
     put_word(room, next, kind)
 }
 

@@ -1,2 +1,1 @@
 pub mod RoomLaws
-pub mod TextLaws

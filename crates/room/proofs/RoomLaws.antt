@@ -8,6 +8,8 @@ use native.Mathlib.Omega.{arith}
 use borrow.Rule.Slice.PartMut.{putMid}
 use lib.ListN.{length, take, drop, set, getD, length-append, length-drop, drop-of-length-le}
 use lib.Seq.{take-all, take-length, take-at, drop-at, drop-drop, length-take-le, paste-zero, paste-suc, length-paste}
+use Rattle.lists.specs.Joined.{joinedBelow}
+use Rattle.lists.proofs.JoinedLaws.{joined-none, joined-more, length-within}
 use Rattle.room.specs.Room.{over, within, Wrote}
 
 -- ---- a loop that copies s from place at on
@@ -54,6 +56,13 @@ chain4 h a b c d = chain (simp length-append h) (chain3 (omega arith) a b c) d
 pub chain5 : {x y z u v r₀ r₁ r₂ r₃ r₄ r₅ : List ℕ} {at p q s t r : ℕ} → at + (length x + length y + length z + length u) ≤ length r₀ → Wrote x r₀ r₁ at p → Wrote y r₁ r₂ p q
     → Wrote z r₂ r₃ q s → Wrote u r₃ r₄ s t → Wrote v r₄ r₅ t r → Wrote (x ++ y ++ z ++ u ++ v) r₀ r₅ at r
 chain5 h a b c d e = chain (simp length-append h) (chain4 (omega arith) a b c d) e
+
+-- a text for each number, and one number more
+pub wrote-no-texts : (f : ℕ → List ℕ) (room : List ℕ) (at : ℕ) → Wrote (joinedBelow f 0) room room at at
+wrote-no-texts f room at = wrote-as (wrote-none room at) (sym (joined-none f))
+
+pub wrote-more : (f : ℕ → List ℕ) {i m : ℕ} {r₀ r₁ r₂ : List ℕ} {at p q : ℕ} → i < m → at + length (joinedBelow f m) ≤ length r₀ → Wrote (joinedBelow f i) r₀ r₁ at p → Wrote (f i) r₁ r₂ p q → Wrote (joinedBelow f (i + 1)) r₀ r₂ at q
+wrote-more f {i} {m} l h a b = wrote-as (chain (omega (arith, length-within f l)) a b) (joined-more f i)
 
 pub wrote-length : {t before after : List ℕ} {at r : ℕ} → at + length t ≤ length before → Wrote t before after at r → length after ≡ length before
 unfolding within

@@ -1,7 +1,7 @@
 -- A room with a text in it: the text, and before and behind it the room as it was.
-use Prim.Native.Nat.{ℕ, zero, suc, _+_}
+use Prim.Native.Nat.{ℕ, _+_}
 use mathlib.Core.Path.{_≡_}
-use mathlib.Core.List.{List, [], _++_}
+use mathlib.Core.List.{List, _++_}
 use lib.ListN.{length, take, drop}
 
 -- the text at the room's front
@@ -16,8 +16,3 @@ within t at room = take at room ++ t ++ drop (at + length t) room
 pub record Wrote (t before after : List ℕ) (at next : ℕ) : Type 0 where
   pub place : next ≡ at + length t
   pub room : after ≡ within t at before
-
--- the texts of the numbers below n, one behind the other
-unfoldable pub texts : (ℕ → List ℕ) → ℕ → List ℕ
-texts f zero = []
-texts f (suc n) = texts f n ++ f n

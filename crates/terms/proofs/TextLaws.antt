@@ -31,31 +31,31 @@ use Rattle.room.proofs.RoomLaws.{wrote-as, chain3, chain4, chain5}
 use Rattle.pieces.specs.Sizes.{longestWord}
 use Rattle.pieces.proofs.WordLaws.{word-short}
 use Rattle.pieces.proofs.PieceLaws.{symbol-short, literal-length}
-use Rattle.terms.specs.Texts.{Ready, textAt, leafBytes, bytesPerNode, longestText}
+use Rattle.terms.specs.Texts.{AcceptedNode, textAt, callBytes, leafBytes, bytesPerNode, longestText}
 
 -- ---- lengths
-pub length-1 : (w a : List ℕ) → length (call1 w a) ≡ 3 + length w + length a
+pub length-1 : (w a : List ℕ) → length (call1 w a) ≡ callBytes 1 + length w + length a
 length-1 w a = simp length-append (omega arith)
 
-pub length-2 : (w a b : List ℕ) → length (call2 w a b) ≡ 4 + length w + length a + length b
+pub length-2 : (w a b : List ℕ) → length (call2 w a b) ≡ callBytes 2 + length w + length a + length b
 length-2 w a b = simp length-append (omega arith)
 
-pub length-3 : (w a b c : List ℕ) → length (call3 w a b c) ≡ 5 + length w + length a + length b + length c
+pub length-3 : (w a b c : List ℕ) → length (call3 w a b c) ≡ callBytes 3 + length w + length a + length b + length c
 length-3 w a b c = simp length-append (omega arith)
 
 -- ---- a node's text from its pieces
-pub wrote-one : {w a r₀ r₁ r₂ r₃ : List ℕ} {p q r : ℕ} → 3 + length w + length a ≤ length r₀ → Wrote (ascii "(" ++ w) r₀ r₁ 0 p → Wrote (ascii " " ++ a) r₁ r₂ p q → Wrote (ascii ")") r₂ r₃ q r
+pub wrote-one : {w a r₀ r₁ r₂ r₃ : List ℕ} {p q r : ℕ} → callBytes 1 + length w + length a ≤ length r₀ → Wrote (ascii "(" ++ w) r₀ r₁ 0 p → Wrote (ascii " " ++ a) r₁ r₂ p q → Wrote (ascii ")") r₂ r₃ q r
     → Wrote (call1 w a) r₀ r₃ 0 r
 wrote-one h x y z = wrote-as (chain3 (omega arith) x y z) (simp append-assoc)
 
 flat : (x w y a z b e : List ℕ) → x ++ w ++ (y ++ a) ++ (z ++ b) ++ e ≡ x ++ (w ++ (y ++ (a ++ (z ++ (b ++ e)))))
 flat x w y a z b e = simp append-assoc
 
-pub wrote-two : {w a b r₀ r₁ r₂ r₃ r₄ : List ℕ} {p q s r : ℕ} → 4 + length w + length a + length b ≤ length r₀ → Wrote (ascii "(" ++ w) r₀ r₁ 0 p → Wrote (ascii " " ++ a) r₁ r₂ p q
+pub wrote-two : {w a b r₀ r₁ r₂ r₃ r₄ : List ℕ} {p q s r : ℕ} → callBytes 2 + length w + length a + length b ≤ length r₀ → Wrote (ascii "(" ++ w) r₀ r₁ 0 p → Wrote (ascii " " ++ a) r₁ r₂ p q
     → Wrote (ascii " " ++ b) r₂ r₃ q s → Wrote (ascii ")") r₃ r₄ s r → Wrote (call2 w a b) r₀ r₄ 0 r
 wrote-two {w} {a} {b} h x y z u = wrote-as (chain4 (omega arith) x y z u) (flat (ascii "(") w (ascii " ") a (ascii " ") b (ascii ")"))
 
-pub wrote-three : {w a b c r₀ r₁ r₂ r₃ r₄ r₅ : List ℕ} {p q s t r : ℕ} → 5 + length w + length a + length b + length c ≤ length r₀ → Wrote (ascii "(" ++ w) r₀ r₁ 0 p
+pub wrote-three : {w a b c r₀ r₁ r₂ r₃ r₄ r₅ : List ℕ} {p q s t r : ℕ} → callBytes 3 + length w + length a + length b + length c ≤ length r₀ → Wrote (ascii "(" ++ w) r₀ r₁ 0 p
     → Wrote (ascii " " ++ a) r₁ r₂ p q → Wrote (ascii " " ++ b) r₂ r₃ q s → Wrote (ascii " " ++ c) r₃ r₄ s t → Wrote (ascii ")") r₄ r₅ t r → Wrote (call3 w a b c) r₀ r₅ 0 r
 wrote-three {w} {a} {b} {c} h x y z u v =
     wrote-as (chain5 (omega arith) x y z u v)
@@ -79,31 +79,31 @@ bound (Three s t u) r w n g st l o b all =
 
 -- ---- nodes by the number of their operands: the length of the text, and that the operands are nodes of lower numbers
 pub record OneNode (s : List ℕ) (n : ℕ) (r : Record) : Type 0 where
-  pub size : length (textAt s n) ≡ 3 + length (wordOf (r .kind)) + length (textAt s (r .a))
+  pub size : length (textAt s n) ≡ callBytes 1 + length (wordOf (r .kind)) + length (textAt s (r .a))
   pub short : length (textAt s n) ≤ longestText
-  pub first : Ready s (r .a)
+  pub first : AcceptedNode s (r .a)
   pub low : r .a < n
 
 pub record TwoNode (s : List ℕ) (n : ℕ) (r : Record) : Type 0 where
-  pub size : length (textAt s n) ≡ 4 + length (wordOf (r .kind)) + length (textAt s (r .a)) + length (textAt s (r .b))
+  pub size : length (textAt s n) ≡ callBytes 2 + length (wordOf (r .kind)) + length (textAt s (r .a)) + length (textAt s (r .b))
   pub short : length (textAt s n) ≤ longestText
-  pub first : Ready s (r .a)
-  pub second : Ready s (r .b)
+  pub first : AcceptedNode s (r .a)
+  pub second : AcceptedNode s (r .b)
   pub low : r .a < n
   pub low₂ : r .b < n
 
 pub record ThreeNode (s : List ℕ) (n : ℕ) (r : Record) : Type 0 where
-  pub size : length (textAt s n) ≡ 5 + length (wordOf (r .kind)) + length (textAt s (r .a)) + length (textAt s (r .b)) + length (textAt s (r .c))
+  pub size : length (textAt s n) ≡ callBytes 3 + length (wordOf (r .kind)) + length (textAt s (r .a)) + length (textAt s (r .b)) + length (textAt s (r .c))
   pub short : length (textAt s n) ≤ longestText
-  pub first : Ready s (r .a)
-  pub second : Ready s (r .b)
-  pub third : Ready s (r .c)
+  pub first : AcceptedNode s (r .a)
+  pub second : AcceptedNode s (r .b)
+  pub third : AcceptedNode s (r .c)
   pub low : r .a < n
   pub low₂ : r .b < n
   pub low₃ : r .c < n
 
 -- ---- a node of an accepted sheet
-module _ {s : List ℕ} {n : ℕ} (ok : Ready s n) where
+module _ {s : List ℕ} {n : ℕ} (ok : AcceptedNode s n) where
   placed : Placed (table s) (variableCount s) n
   placed = accepted-sound s (ok .accepted) .placed n (ok .below)
 
@@ -116,7 +116,7 @@ module _ {s : List ℕ} {n : ℕ} (ok : Ready s n) where
 
 -- ---- how long a text can be
 module _ {s : List ℕ} where
-  short-below : (m n : ℕ) → n < m → Ready s n → length (textAt s n) + bytesPerNode * startAt (table s) n ≤ bytesPerNode * n + leafBytes
+  short-below : (m n : ℕ) → n < m → AcceptedNode s n → length (textAt s n) + bytesPerNode * startAt (table s) n ≤ bytesPerNode * n + leafBytes
   short-below zero n h ok = absurd (omega arith)
   short-below (suc m) n h ok =
       let p = placed ok in
@@ -124,13 +124,13 @@ module _ {s : List ℕ} where
       (bound (shapeAt (table s n)) (table s n) (wordOf (table s n .kind)) n (textAt s) (startAt (table s)) (word-short (table s n .kind)) (p .ordered) (lower p)
       (λ j l. short-below m j (omega arith) (record { accepted = ok .accepted; below = omega (arith, ok .below) })))
 
-  pub text-short : {n : ℕ} → Ready s n → length (textAt s n) ≤ longestText
+  pub text-short : {n : ℕ} → AcceptedNode s n → length (textAt s n) ≤ longestText
   text-short {n} ok =
       let c = accepted-counted s (ok .accepted) in
       omega (arith, short-below (suc n) n (omega arith) ok, c .most, ok .below)
 
 -- ---- a node by its record r and its shape h
-module _ {s : List ℕ} {n : ℕ} (ok : Ready s n) {r : Record} (er : r ≡ table s n) {h : Shape} (eh : h ≡ row (r .kind) .shape) where
+module _ {s : List ℕ} {n : ℕ} (ok : AcceptedNode s n) {r : Record} (er : r ≡ table s n) {h : Shape} (eh : h ≡ row (r .kind) .shape) where
   as-shape : h ≡ shapeAt (table s n)
   as-shape = eh ∙ ap shapeAt er
 
@@ -152,7 +152,7 @@ module _ {s : List ℕ} {n : ℕ} (ok : Ready s n) {r : Record} (er : r ≡ tabl
       omega (arith, ap (λ (x : Record). x .a) er, accepted-counted s (ok .accepted) .few)
 
   -- nodes with operands
-  lower-ready : {a : ℕ} → a < n → Ready s a
+  lower-ready : {a : ℕ} → a < n → AcceptedNode s a
   lower-ready l = record { accepted = ok .accepted; below = omega (arith, ok .below) }
 
   pub one-node : {t : Sort} → h ≡ One t → OneNode s n r

@@ -1,8 +1,10 @@
 -- The texts of nodes, by the sheet's records (document 01, column "text").
-use Prim.Native.Nat.{ℕ, _*_, _<_}
+use Prim.Native.Nat.{ℕ, _+_, _*_, _<_}
 use mathlib.Core.Path.{_≡_}
 use mathlib.Core.List.{List, []}
 use mathlib.Core.Option.{none}
+use lib.ListN.{length}
+use Rattle.lists.specs.Ascii.{ascii}
 use Rattle.kinds.specs.declared.Record.{Record}
 use Rattle.layout.specs.Limits.{mostNodes}
 use Rattle.layout.specs.Fold.{ofNode}
@@ -14,7 +16,7 @@ use Rattle.wording.specs.Sixteen.{literal, symbolText}
 use Rattle.pieces.specs.Sizes.{constantBytes}
 
 -- the sheet is accepted, and n is one of its nodes
-pub record Ready (s : List ℕ) (n : ℕ) : Type 0 where
+pub record AcceptedNode (s : List ℕ) (n : ℕ) : Type 0 where
   pub accepted : refusalOf s ≡ none
   pub below : n < nodeCount s
 
@@ -22,7 +24,11 @@ pub record Ready (s : List ℕ) (n : ℕ) : Type 0 where
 unfoldable pub textAt : List ℕ → ℕ → List ℕ
 textAt s n = ofNode (textStep literal symbolText) [] (table s) n
 
--- words of w letters and leaves of c bytes keep to k bytes per node where 3 + w ≤ k, 4 + w + c ≤ 2 k and 5 + w + 2 c ≤ 3 k
+-- the bytes of a node's text besides its word and its n operands: parentheses, and a blank before each operand
+abbrev pub callBytes : ℕ → ℕ
+callBytes n = length (ascii "(") + n * length (ascii " ") + length (ascii ")")
+
+-- words of w letters and leaves of c bytes keep to k bytes per node where callBytes n + w + (n - 1) c ≤ n k for n operands, one to three
 abbrev pub leafBytes : ℕ
 leafBytes = constantBytes
 

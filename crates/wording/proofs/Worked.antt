@@ -17,7 +17,7 @@ use Rattle.layout.proofs.Example.{ruleA}
 use Rattle.wording.specs.Words.{wordOf}
 use Rattle.wording.specs.Text.{text}
 use Rattle.wording.specs.Sixteen.{hexDigit, hexText, literal, symbolText}
-use Rattle.wording.specs.Script.{joined, script}
+use Rattle.wording.specs.Script.{script}
 
 -- ---- document 01's column "text": each kind, with numbers and variables at their edges
 abbrev pub text16 : {s : Sort} → Tree s → List ℕ
@@ -84,7 +84,7 @@ bytesA =
     ++ ascii "(exit)\n"))))))
 
 pub scriptA : script ruleA ≡ bytesA
-unfolding script joined ofTree symbolText literal hexText hexDigit enc
+unfolding script ofTree symbolText literal hexText hexDigit enc
 scriptA = refl
 
 pub lengthA : length (script ruleA) ≡ 234

@@ -3,6 +3,7 @@ use Prim.Native.Nat.{ℕ, suc}
 use mathlib.Core.List.{List, [], _∷_, _++_, map}
 use lib.IntN.{ℤ}
 use Rattle.lists.specs.Ascii.{ascii}
+use Rattle.lists.specs.Joined.{joined}
 use Rattle.numbers.specs.declared.Range.{Range}
 use Rattle.meaning.specs.declared.Sort.the-variants.{Truth}
 use Rattle.meaning.specs.Tree.{Tree, neg, conj, atMost, const, var}
@@ -36,11 +37,10 @@ module _ (constant : ℤ → List ℕ) (symbol : ℕ → List ℕ) (width : List
       ascii "(set-logic QF_UFBV)"
       ∷ (declarations 0 (r .variables) ++ (map assertion (claims 0 (r .variables) (r .goal)) ++ (ascii "(check-sat)" ∷ ascii "(exit)" ∷ [])))
 
--- each line, and a line feed behind it
-unfoldable pub joined : List (List ℕ) → List ℕ
-joined [] = []
-joined (l ∷ ls) = (l ++ ascii "\n") ++ joined ls
+-- a line, and a line feed behind it
+abbrev pub ended : List ℕ → List ℕ
+ended l = l ++ ascii "\n"
 
 -- the script, at 16 bits
 unfoldable pub script : Rule → List ℕ
-script r = joined (linesOf literal symbolText widthText r)
+script r = joined ended (linesOf literal symbolText widthText r)

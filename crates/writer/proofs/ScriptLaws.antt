@@ -1,20 +1,21 @@
 -- The script of an accepted sheet from its lines, and how long it is. Assumes nothing.
-use Prim.Native.Nat.{ℕ, zero, suc, _+_, _-_, _≤_}
+use Prim.Native.Nat.{ℕ, zero, suc, _+_, _≤_}
 use mathlib.Core.Path.{_≡_, refl, sym, ap, _∙_}
 use mathlib.Core.List.{List, [], _∷_, _++_, map, append-assoc, append-nil}
 use mathlib.Core.Option.{none}
-use native.Mathlib.Nat.{add-zero, zero-add, add-suc, suc-add}
 use native.Mathlib.Omega.{arith}
 use lib.ListN.{length, length-append}
 use Rattle.lists.specs.Ascii.{ascii}
 use Rattle.lists.specs.Places.{from}
+use Rattle.lists.specs.Joined.{joined, joinedBelow}
 use Rattle.lists.proofs.RunLaws.{length-from}
+use Rattle.lists.proofs.JoinedLaws.{joined-append}
 use Rattle.meaning.specs.declared.Sort.the-variants.{Truth}
 use Rattle.meaning.specs.Tree.{Tree, neg}
 use Rattle.meaning.specs.Rule.{Variable}
 use Rattle.layout.specs.Limits.{blockBytes}
 use Rattle.layout.specs.Fold.{ofTree}
-use Rattle.layout.specs.Parts.{nodeCount, variableCount, variableAt, table, ruleIn}
+use Rattle.layout.specs.Parts.{goalAt, variableCount, variableAt, table, ruleIn}
 use Rattle.layout.proofs.FoldLaws.{goal-found}
 use Rattle.header.proofs.HeaderLaws.{block-inside}
 use Rattle.reading.specs.Cascade.{refusalOf}
@@ -22,33 +23,24 @@ use Rattle.reading.proofs.RuleLaws.{accepted-counted, accepted-sound}
 use Rattle.wording.specs.Words.{wordOf}
 use Rattle.wording.specs.Text.{textStep, text}
 use Rattle.wording.specs.Sixteen.{literal, symbolText, widthText}
-use Rattle.wording.specs.Script.{claims, declarations, assertion, joined, script}
-use Rattle.room.specs.Room.{texts}
-use Rattle.lines.specs.Lines.{declarationLine, rangeLine, variablesLength}
-use Rattle.lines.proofs.LineLaws.{variables-length}
-use Rattle.terms.specs.Texts.{Ready, textAt}
+use Rattle.wording.specs.Script.{claims, declarations, assertion, ended, script}
+use Rattle.lines.specs.Lines.{declarationLine, rangeLine, LinesSize}
+use Rattle.lines.proofs.LineLaws.{lines-short}
+use Rattle.terms.specs.Texts.{AcceptedNode, textAt}
 use Rattle.terms.proofs.TextLaws.{text-short}
-use Rattle.writer.specs.Ending.{goalLines}
+use Rattle.writer.specs.Ending.{setLogic, goalStart, goalEnd, goalLines, goalBytes, frameBytes}
 use Rattle.writer.specs.Writes.{enoughRoom}
 
 -- ---- the lines of the goal
-pub goal-from : (s : List ℕ) {n : ℕ} → n ≡ nodeCount s - 1 → ascii "(assert (not" ++ (ascii " " ++ textAt s n) ++ ascii "))\n(check-sat)\n(exit)\n" ≡ goalLines s
+pub goal-from : (s : List ℕ) {n : ℕ} → n ≡ goalAt s → goalStart ++ (ascii " " ++ textAt s n) ++ goalEnd ≡ goalLines s
 unfolding goalLines
 goal-from s e = rw e
 
 -- ---- the script
-joined-append : (a b : List (List ℕ)) → joined (a ++ b) ≡ joined a ++ joined b
-unfolding joined
-joined-append [] b = refl
-joined-append (l ∷ ls) b = ap (λ (x : List ℕ). l ++ ascii "\n" ++ x) (joined-append ls b) ∙ sym (append-assoc (l ++ ascii "\n") (joined ls) (joined b))
-
-declared-lines : (i : ℕ) (vs : List Variable) → texts declarationLine i ++ joined (declarations literal symbolText widthText i vs) ≡ texts declarationLine (i + length vs)
-unfolding texts joined declarationLine
-declared-lines i [] = append-nil _ ∙ ap (texts declarationLine) (sym (add-zero i))
-declared-lines i (v ∷ vs) =
-    sym (append-assoc (texts declarationLine i) (declarationLine i) (joined (declarations literal symbolText widthText (suc i) vs)))
-    ∙ declared-lines (suc i) vs
-    ∙ ap (texts declarationLine) (suc-add i (length vs) ∙ sym (add-suc i (length vs)))
+declared-lines : (i : ℕ) (vs : List Variable) → joined ended (declarations literal symbolText widthText i vs) ≡ joined declarationLine (from (λ (j : ℕ). j) i (length vs))
+unfolding declarationLine
+declared-lines i [] = refl
+declared-lines i (v ∷ vs) = ap (λ (l : List ℕ). declarationLine i ++ l) (declared-lines (suc i) vs)
 
 -- the script's lines before they are joined: assertions, and those of a sheet
 abbrev asserted : Tree Truth → List ℕ
@@ -61,26 +53,24 @@ abbrev claimed : List ℕ → List (List ℕ)
 claimed s = map asserted (claims 0 (ruleIn s .variables) (ruleIn s .goal))
 
 abbrev negated : List ℕ → List ℕ
-negated s = asserted (neg (ruleIn s .goal)) ++ ascii "\n"
+negated s = ended (asserted (neg (ruleIn s .goal)))
 
 module _ (s : List ℕ) (goal : Tree Truth) where
-  ranged-lines : (i k : ℕ) → texts (rangeLine s) i ++ joined (map asserted (claims i (from (variableAt s) i k) goal))
-      ≡ texts (rangeLine s) (i + k) ++ (asserted (neg goal) ++ ascii "\n")
-  unfolding texts joined rangeLine
-  ranged-lines i zero = ap (λ (x : List ℕ). texts (rangeLine s) i ++ x) (append-nil _) ∙ ap (λ (n : ℕ). texts (rangeLine s) n ++ (asserted (neg goal) ++ ascii "\n")) (sym (add-zero i))
+  ranged-lines : (i k : ℕ) → joined ended (map asserted (claims i (from (variableAt s) i k) goal)) ≡ joined (rangeLine s) (from (λ (j : ℕ). j) i k) ++ ended (asserted (neg goal))
+  unfolding rangeLine
+  ranged-lines i zero = append-nil _
   ranged-lines i (suc k) =
-      sym (append-assoc (texts (rangeLine s) i) (rangeLine s i) (joined (map asserted (claims (suc i) (from (variableAt s) (suc i) k) goal))))
-      ∙ ranged-lines (suc i) k
-      ∙ ap (λ (n : ℕ). texts (rangeLine s) n ++ (asserted (neg goal) ++ ascii "\n")) (suc-add i k ∙ sym (add-suc i k))
+      ap (λ (l : List ℕ). rangeLine s i ++ l) (ranged-lines (suc i) k)
+      ∙ sym (append-assoc (rangeLine s i) (joined (rangeLine s) (from (λ (j : ℕ). j) (suc i) k)) (ended (asserted (neg goal))))
 
-assembled : (x y z : List (List ℕ)) {d e g : List ℕ} (r n f : List ℕ) → joined x ≡ d → joined y ≡ r ++ n → joined z ≡ e → n ++ e ≡ g → f ++ d ++ r ++ g ≡ f ++ joined (x ++ (y ++ z))
-assembled x y z r n f p q u v = rw (joined-append x (y ++ z), joined-append y z, p, q, u, ← v) (simp append-assoc)
+assembled : (x y z : List (List ℕ)) {d e g : List ℕ} (r n f : List ℕ) → joined ended x ≡ d → joined ended y ≡ r ++ n → joined ended z ≡ e → n ++ e ≡ g → f ++ d ++ r ++ g ≡ f ++ joined ended (x ++ (y ++ z))
+assembled x y z r n f p q u v = rw (joined-append ended x (y ++ z), joined-append ended y z, p, q, u, ← v) (simp append-assoc)
 
 flat-goal : (a o w b t e n z : List ℕ) → a ++ (o ++ (w ++ (b ++ (t ++ e))) ++ e) ++ n ++ z ≡ a ++ (o ++ (w ++ (b ++ (t ++ (e ++ (e ++ (n ++ z)))))))
 flat-goal a o w b t e n z = simp append-assoc
 
 module _ (s : List ℕ) (e : refusalOf s ≡ none) where
-  goal-text : text literal symbolText (ruleIn s .goal) ≡ textAt s (nodeCount s - 1)
+  goal-text : text literal symbolText (ruleIn s .goal) ≡ textAt s (goalAt s)
   unfolding textAt
   goal-text = sym (goal-found (textStep literal symbolText) [] (table s) (accepted-sound s e))
 
@@ -90,38 +80,35 @@ module _ (s : List ℕ) (e : refusalOf s ≡ none) where
       flat-goal (ascii "(assert ") (ascii "(") (ascii "not") (ascii " ") (text literal symbolText (ruleIn s .goal)) (ascii ")") (ascii "\n") (ascii "(check-sat)\n(exit)\n")
       ∙ ap (λ (t : List ℕ). ascii "(assert (not " ++ (t ++ ascii "))\n(check-sat)\n(exit)\n")) goal-text
 
-  declarations-are : joined (declared s) ≡ texts declarationLine (variableCount s)
-  unfolding texts
-  declarations-are = declared-lines 0 (ruleIn s .variables) ∙ ap (texts declarationLine) (zero-add _ ∙ length-from (variableAt s) 0 (variableCount s))
+  declarations-are : joined ended (declared s) ≡ joinedBelow declarationLine (variableCount s)
+  unfolding joinedBelow
+  declarations-are = declared-lines 0 (ruleIn s .variables) ∙ ap (λ (n : ℕ). joined declarationLine (from (λ (j : ℕ). j) 0 n)) (length-from (variableAt s) 0 (variableCount s))
 
-  ranges-are : joined (claimed s)
-      ≡ texts (rangeLine s) (variableCount s) ++ negated s
-  unfolding texts
-  ranges-are =
-      ranged-lines s (ruleIn s .goal) 0 (variableCount s)
-      ∙ ap (λ (n : ℕ). texts (rangeLine s) n ++ negated s) (zero-add (variableCount s))
+  ranges-are : joined ended (claimed s) ≡ joinedBelow (rangeLine s) (variableCount s) ++ negated s
+  unfolding joinedBelow
+  ranges-are = ranged-lines s (ruleIn s .goal) 0 (variableCount s)
 
   -- the parts in order
-  script-is : ascii "(set-logic QF_UFBV)\n" ++ texts declarationLine (variableCount s) ++ texts (rangeLine s) (variableCount s) ++ goalLines s ≡ script (ruleIn s)
-  unfolding script joined
-  script-is = assembled (declared s) (claimed s) _ (texts (rangeLine s) (variableCount s)) (negated s) (ascii "(set-logic QF_UFBV)\n") declarations-are ranges-are refl goal-is
+  script-is : setLogic ++ joinedBelow declarationLine (variableCount s) ++ joinedBelow (rangeLine s) (variableCount s) ++ goalLines s ≡ script (ruleIn s)
+  unfolding script
+  script-is = assembled (declared s) (claimed s) _ (joinedBelow (rangeLine s) (variableCount s)) (negated s) setLogic declarations-are ranges-are refl goal-is
 
-  pub goal-length : length (goalLines s) ≡ 35 + length (textAt s (nodeCount s - 1))
+  pub goal-length : length (goalLines s) ≡ goalBytes + length (textAt s (goalAt s))
   unfolding goalLines
   goal-length = simp length-append (omega arith)
 
   module _ {v : ℕ} (ev : v ≡ variableCount s) where
-    pub script-from : ascii "(set-logic QF_UFBV)\n" ++ texts declarationLine v ++ texts (rangeLine s) v ++ goalLines s ≡ script (ruleIn s)
+    pub script-from : setLogic ++ joinedBelow declarationLine v ++ joinedBelow (rangeLine s) v ++ goalLines s ≡ script (ruleIn s)
     script-from = rw ev script-is
 
-    pub script-parts : length (script (ruleIn s)) ≡ 20 + length (texts declarationLine v) + length (texts (rangeLine s) v) + length (goalLines s)
+    pub script-parts : length (script (ruleIn s)) ≡ length setLogic + length (joinedBelow declarationLine v) + length (joinedBelow (rangeLine s) v) + length (goalLines s)
     script-parts = ap length (sym script-from) ∙ simp length-append (omega arith)
 
-  pub script-length : length (script (ruleIn s)) ≡ variablesLength (variableCount s) + length (textAt s (nodeCount s - 1)) + 55
-  script-length = omega (arith, script-parts refl, goal-length, variables-length s (variableCount s))
+  pub script-length : {size : ℕ} → LinesSize (variableCount s) size → length (script (ruleIn s)) ≡ size + length (textAt s (goalAt s)) + frameBytes
+  script-length l = omega (arith, script-parts refl, goal-length, l .of s)
 
   -- the goal's node
-  pub goal-ready : {n : ℕ} → n ≡ nodeCount s - 1 → Ready s n
+  pub goal-ready : {n : ℕ} → n ≡ goalAt s → AcceptedNode s n
   goal-ready g = record { accepted = e; below = omega (arith, accepted-counted s e .some-node) }
 
   -- the first block is there
@@ -129,4 +116,4 @@ module _ (s : List ℕ) (e : refusalOf s ≡ none) where
   first-block = block-inside (accepted-counted s e)
 
   pub script-short : length (script (ruleIn s)) ≤ enoughRoom
-  script-short = let c = accepted-counted s e in omega (arith, script-length, text-short (goal-ready refl), c .few)
+  script-short = let c = accepted-counted s e in omega (arith, script-parts refl, goal-length, lines-short s (variableCount s), text-short (goal-ready refl), c .few)

@@ -5,10 +5,17 @@ use Rattle.answers.proofs.script_answer.Statement.{statement}
 use Rattle.answers.proofs.script_answer.Tie as tie
 
 returns : tie.Need-returns
-returns c = script-written _ (c .before .before .before .before .before .before .before .before .before .pre) (c .before .before .before .before .before .write-script .ensures) (c .before .size .given .1)
+returns c =
+    let at-write-script = c .before .before .before .before .before in
+    let start = at-write-script .before .before .before .before in
+    script-written _ (start .pre) (at-write-script .write-script .ensures) (c .before .size .given .1)
 
 returns-2 : tie.Need-returns-2
-returns-2 c = wrote-from (script-refused _ (c .before .before .before .before .before .before .before .before .before .before .before .before .before .pre) (c .before .before .before .before .before .before .before .before .before .write-script .ensures) (c .before .before .before .before .before .refusal .given .1)) (c .before .before .refused-line .ensures)
+returns-2 c =
+    let at-refusal = c .before .before .before .before .before in
+    let at-write-script = at-refusal .before .before .before .before in
+    let start = at-write-script .before .before .before .before in
+    wrote-from (script-refused _ (start .pre) (at-write-script .write-script .ensures) (at-refusal .refusal .given .1)) (c .before .before .refused-line .ensures)
 
 pub script-answer-spec : {M : Type 1} → statement M
 script-answer-spec =

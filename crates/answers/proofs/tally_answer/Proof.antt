@@ -6,10 +6,16 @@ use Rattle.answers.proofs.tally_answer.Statement.{statement}
 use Rattle.answers.proofs.tally_answer.Tie as tie
 
 returns : tie.Need-returns
-returns c = wrote-as (c .before .before .numbers-line .ensures) (tally-accepted _ (c .before .before .before .before .before .before .before .before .before .before .tally .ensures) (c .before .before .before .before .before .before .before .before .enum-told .given .1))
+returns c =
+    let at-enum-told = c .before .before .before .before .before .before .before .before in
+    let at-tally = at-enum-told .before .before in
+    wrote-as (c .before .before .numbers-line .ensures) (tally-accepted _ (at-tally .tally .ensures) (at-enum-told .enum-told .given .1))
 
 returns-2 : tie.Need-returns-2
-returns-2 c = wrote-as (c .before .before .refused-line .ensures) (tally-refused _ (c .before .before .before .before .before .before .before .tally .ensures) (c .before .before .before .before .before .reading .given .1))
+returns-2 c =
+    let at-reading = c .before .before .before .before .before in
+    let at-tally = at-reading .before .before in
+    wrote-as (c .before .before .refused-line .ensures) (tally-refused _ (at-tally .tally .ensures) (at-reading .reading .given .1))
 
 pub tally-answer-spec : {M : Type 1} → statement M
 tally-answer-spec =

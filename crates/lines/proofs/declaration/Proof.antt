@@ -7,7 +7,10 @@ use Rattle.lines.proofs.declaration.Statement.{statement}
 use Rattle.lines.proofs.declaration.Tie as tie
 
 returns : tie.Need-returns
-returns c = wrote-as (chain3 (omega arith) (c .before .before .before .before .before .before .before .before .before .before .before .put .ensures) (c .before .before .before .before .before .before .before .symbol .ensures) (c .before .before .put2 .ensures)) (declaration-is _)
+returns c =
+    let at-symbol = c .before .before .before .before .before .before .before in
+    let at-put = at-symbol .before .before .before .before in
+    wrote-as (chain3 (omega arith) (at-put .put .ensures) (at-symbol .symbol .ensures) (c .before .before .put2 .ensures)) (declaration-is _)
 
 pub declaration-spec : {M : Type 1} → statement M
 declaration-spec =

@@ -13,7 +13,12 @@ put-requires-3 c κs = search needs
 
 returns : tie.Need-returns
 unfolding rangeEnd hexText
-returns c = chain5 (omega arith) (c .before .before .before .before .before .before .before .before .before .before .before .before .before .before .before .before .before .before .before .before .put .ensures) (c .before .before .before .before .before .before .before .before .before .before .before .before .before .before .before .before .symbol .ensures) (c .before .before .before .before .before .before .before .before .before .before .before .put2 .ensures) (c .before .before .before .before .before .before .before .constant-from .ensures) (c .before .before .put3 .ensures)
+returns c =
+    let at-constant-from = c .before .before .before .before .before .before .before in
+    let at-put2 = at-constant-from .before .before .before .before in
+    let at-symbol = at-put2 .before .before .before .before .before in
+    let at-put = at-symbol .before .before .before .before in
+    chain5 (omega arith) (at-put .put .ensures) (at-symbol .symbol .ensures) (at-put2 .put2 .ensures) (at-constant-from .constant-from .ensures) (c .before .before .put3 .ensures)
 
 pub range-end-spec : {M : Type 1} → statement M
 range-end-spec =

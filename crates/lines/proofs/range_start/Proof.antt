@@ -17,7 +17,11 @@ symbol-requires c κs = search needs
 
 returns : tie.Need-returns
 unfolding rangeStart hexText
-returns c = chain4 (omega arith) (c .before .before .before .before .before .before .before .before .before .before .before .before .before .before .before .put .ensures) (c .before .before .before .before .before .before .before .before .before .before .before .constant-from .ensures) (c .before .before .before .before .before .before .put2 .ensures) (c .before .before .symbol .ensures)
+returns c =
+    let at-put2 = c .before .before .before .before .before .before in
+    let at-constant-from = at-put2 .before .before .before .before .before in
+    let at-put = at-constant-from .before .before .before .before in
+    chain4 (omega arith) (at-put .put .ensures) (at-constant-from .constant-from .ensures) (at-put2 .put2 .ensures) (c .before .before .symbol .ensures)
 
 pub range-start-spec : {M : Type 1} → statement M
 range-start-spec =

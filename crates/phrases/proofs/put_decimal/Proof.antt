@@ -12,7 +12,10 @@ put-requires : tie.Need-put-requires
 put-requires c κs = omega (arith, ap length (digits-are (c .before .before .before .before .before .args .n) (c .before .before .decimal .result) _ (c .before .before .decimal .ensures .1 .0) (c .before .before .decimal .ensures .1 .1)))
 
 returns : tie.Need-returns
-returns c = wrote-as (c .before .before .put .ensures) (digits-are (c .before .before .before .before .before .before .before .before .args .n) (c .before .before .before .before .before .decimal .result) _ (c .before .before .before .before .before .decimal .ensures .1 .0) (c .before .before .before .before .before .decimal .ensures .1 .1))
+returns c =
+    let at-decimal = c .before .before .before .before .before in
+    let start = at-decimal .before .before .before in
+    wrote-as (c .before .before .put .ensures) (digits-are (start .args .n) (at-decimal .decimal .result) _ (at-decimal .decimal .ensures .1 .0) (at-decimal .decimal .ensures .1 .1))
 
 pub put-decimal-spec : {M : Type 1} → statement M
 put-decimal-spec =

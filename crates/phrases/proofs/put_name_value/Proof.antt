@@ -1,4 +1,4 @@
--- `put_name_value` meets its contract: all of it is at most 24 bytes. Assumes nothing.
+-- `put_name_value` meets its contract: a name and a value have at most so many bytes. Assumes nothing.
 use native.Mathlib.Omega.{arith}
 use borrow.Author.Needs.{needs}
 use Rattle.room.proofs.RoomLaws.{wrote-as, chain4}
@@ -12,11 +12,16 @@ put-signed-requires c κs = omega (arith, signed-short (c .before .before .befor
 
 returns : tie.Need-returns
 returns c =
-    let z = signed-short (c .before .before .before .before .before .before .before .before .before .before .before .before .before .before .before .before .before .before .before .before .before .fits .z) in (
+    let at-put3 = c .before .before .before .before .before .before in
+    let at-put2 = at-put3 .before .before .before .before .before in
+    let at-put = at-put2 .before .before .before .before in
+    let at-name-of = at-put .before .before .before in
+    let start = at-name-of .before .before .before in
+    let z = signed-short (start .fits .z) in (
       wrote-as
-          (chain4 (omega arith) (c .before .before .before .before .before .before .before .before .before .before .before .before .before .before .before .put .ensures) (c .before .before .before .before .before .before .before .before .before .before .before .put2 .ensures) (c .before .before .before .before .before .before .put3 .ensures) (c .before .before .put-signed .ensures))
-          (name-value-from (c .before .before .before .before .before .before .before .before .before .before .before .before .before .before .before .before .before .before .name-of .ensures) (c .before .before .before .before .before .before .before .before .before .before .before .before .before .before .before .before .before .before .before .before .before .fits .z)),
-      omega (arith, c .before .before .before .before .before .before .before .before .before .before .before .before .before .before .before .before .before .before .name-of .ensures .short),
+          (chain4 (omega arith) (at-put .put .ensures) (at-put2 .put2 .ensures) (at-put3 .put3 .ensures) (c .before .before .put-signed .ensures))
+          (name-value-from (at-name-of .name-of .ensures) (start .fits .z)),
+      omega (arith, at-name-of .name-of .ensures .short),
     )
 
 pub put-name-value-spec : {M : Type 1} → statement M

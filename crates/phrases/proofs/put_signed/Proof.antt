@@ -10,7 +10,11 @@ put-requires : tie.Need-put-requires
 put-requires c κs = omega (arith, minus-length (c .before .before .before .before .before .fits .z) (c .before .before .before .magnitude .ensures) (c .before .before .if1 .taken))
 
 put-decimal-requires : tie.Need-put-decimal-requires
-put-decimal-requires c κs = omega (arith, minus-length (c .before .before .before .before .before .before .before .before .before .fits .z) (c .before .before .before .before .before .before .before .magnitude .ensures) (c .before .before .before .before .before .before .if1 .taken))
+put-decimal-requires c κs =
+    let at-if1 = c .before .before .before .before .before .before in
+    let at-magnitude = at-if1 .before in
+    let start = at-magnitude .before .before in
+    omega (arith, minus-length (start .fits .z) (at-magnitude .magnitude .ensures) (at-if1 .if1 .taken))
 
 returns : tie.Need-returns
 returns c =
@@ -23,7 +27,10 @@ put-decimal-requires-2 : tie.Need-put-decimal-requires-2
 put-decimal-requires-2 c κs = omega (arith, plain-length (c .before .before .before .before .fits .z) (c .before .before .magnitude .ensures) (c .before .if1 .left))
 
 returns-2 : tie.Need-returns-2
-returns-2 c = wrote-as (c .before .before .put-decimal2 .ensures) (plain-text (c .before .before .before .before .before .before .before .fits .z) (c .before .before .before .before .before .magnitude .ensures) (c .before .before .before .before .if1 .left))
+returns-2 c =
+    let at-magnitude = c .before .before .before .before .before in
+    let start = at-magnitude .before .before in
+    wrote-as (c .before .before .put-decimal2 .ensures) (plain-text (start .fits .z) (at-magnitude .magnitude .ensures) (c .before .before .before .before .if1 .left))
 
 pub put-signed-spec : {M : Type 1} → statement M
 put-signed-spec =

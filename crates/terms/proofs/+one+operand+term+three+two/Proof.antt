@@ -99,7 +99,10 @@ one-operand-requires : (t : ℕ) → one-lts.Need-operand-requires (one-callees 
 one-operand-requires t c κs = (omega arith, (c .before .before .before .before .before .before .before .pre .1 .0, omega arith))
 
 one-returns : (t : ℕ) → one-lts.Need-returns (one-callees t) (one-at t) one.Post
-one-returns t c = wrote-one (omega arith) (c .before .before .before .before .before .before .before .before .before .before .before .head .ensures) (c .before .before .before .before .before .before .before .operand .ensures) (c .before .before .put .ensures)
+one-returns t c =
+    let at-operand = c .before .before .before .before .before .before .before in
+    let at-head = at-operand .before .before .before .before in
+    wrote-one (omega arith) (at-head .head .ensures) (at-operand .operand .ensures) (c .before .before .put .ensures)
 
 operand-returns : (t : ℕ) → operand-lts.Need-returns (operand-callees t) (operand-at t) operand.Post
 operand-returns t c = chain (omega arith) (c .before .before .before .before .before .before .put .ensures) (wrote-part _ (c .before .before .term .ensures))
@@ -114,7 +117,9 @@ term-constant-requires : (t : ℕ) → term-lts.Need-constant-requires (term-cal
 term-constant-requires t c κs = omega (arith, ap length (node-text (c .before .before .before .before .before .before .before .pre .1 .0) (c .before .before .before .before .record-at .ensures) (c .before .before .before .shape-of .ensures) (c .before .enum-told3 .given .1)), literal-length (dec 16 (c .before .before .before .before .record-at .result .value)))
 
 term-symbol-requires : (t : ℕ) → term-lts.Need-symbol-requires (term-callees t) (term-at t) term.Post
-term-symbol-requires t c κs = (named-small (c .before .before .before .before .before .before .before .pre .1 .0) (c .before .before .before .before .record-at .ensures) (c .before .before .before .shape-of .ensures) (c .before .enum-told4 .given .1), omega (arith, ap length (node-text (c .before .before .before .before .before .before .before .pre .1 .0) (c .before .before .before .before .record-at .ensures) (c .before .before .before .shape-of .ensures) (c .before .enum-told4 .given .1))))
+term-symbol-requires t c κs =
+    let start = c .before .before .before .before .before .before .before in
+    (named-small (start .pre .1 .0) (c .before .before .before .before .record-at .ensures) (c .before .before .before .shape-of .ensures) (c .before .enum-told4 .given .1), omega (arith, ap length (node-text (start .pre .1 .0) (c .before .before .before .before .record-at .ensures) (c .before .before .before .shape-of .ensures) (c .before .enum-told4 .given .1))))
 
 term-one-requires : (t : ℕ) → term-lts.Need-one-requires (term-callees t) (term-at t) term.Post
 term-one-requires t c κs =
@@ -135,22 +140,47 @@ term-returns : (t : ℕ) → term-lts.Need-returns (term-callees t) (term-at t) 
 term-returns t c = wrote-as (wrote-none _ 0) (sym (node-text (c .before .before .before .before .before .before .pre .1 .0) (c .before .before .before .record-at .ensures) (c .before .before .shape-of .ensures) (c .enum-told .given .1)))
 
 term-returns-2 : (t : ℕ) → term-lts.Need-returns-2 (term-callees t) (term-at t) term.Post
-term-returns-2 t c = wrote-as (c .before .before .put-word .ensures) (sym (node-text (c .before .before .before .before .before .before .before .before .before .before .pre .1 .0) (c .before .before .before .before .before .before .before .record-at .ensures) (c .before .before .before .before .before .before .shape-of .ensures) (c .before .before .before .before .enum-told2 .given .1)))
+term-returns-2 t c =
+    let at-shape-of = c .before .before .before .before .before .before in
+    let at-record-at = at-shape-of .before in
+    let start = at-record-at .before .before .before in
+    wrote-as (c .before .before .put-word .ensures) (sym (node-text (start .pre .1 .0) (at-record-at .record-at .ensures) (at-shape-of .shape-of .ensures) (c .before .before .before .before .enum-told2 .given .1)))
 
 term-returns-3 : (t : ℕ) → term-lts.Need-returns-3 (term-callees t) (term-at t) term.Post
-term-returns-3 t c = wrote-as (c .before .before .constant .ensures) (valued-text (c .before .before .before .before .before .before .before .before .before .before .pre .1 .0) (c .before .before .before .before .before .before .before .record-at .ensures) (c .before .before .before .before .before .before .shape-of .ensures) (λ i. omega (arith, c .before .before .before .before .before .before .before .before .before .shared-slice-known .given i)) (c .before .before .before .before .enum-told3 .given .1))
+term-returns-3 t c =
+    let at-shape-of = c .before .before .before .before .before .before in
+    let at-record-at = at-shape-of .before in
+    let at-shared-slice-known = at-record-at .before .before in
+    let start = at-shared-slice-known .before in
+    wrote-as (c .before .before .constant .ensures) (valued-text (start .pre .1 .0) (at-record-at .record-at .ensures) (at-shape-of .shape-of .ensures) (λ i. omega (arith, at-shared-slice-known .shared-slice-known .given i)) (c .before .before .before .before .enum-told3 .given .1))
 
 term-returns-4 : (t : ℕ) → term-lts.Need-returns-4 (term-callees t) (term-at t) term.Post
-term-returns-4 t c = wrote-as (c .before .before .symbol .ensures) (sym (node-text (c .before .before .before .before .before .before .before .before .before .before .pre .1 .0) (c .before .before .before .before .before .before .before .record-at .ensures) (c .before .before .before .before .before .before .shape-of .ensures) (c .before .before .before .before .enum-told4 .given .1)))
+term-returns-4 t c =
+    let at-shape-of = c .before .before .before .before .before .before in
+    let at-record-at = at-shape-of .before in
+    let start = at-record-at .before .before .before in
+    wrote-as (c .before .before .symbol .ensures) (sym (node-text (start .pre .1 .0) (at-record-at .record-at .ensures) (at-shape-of .shape-of .ensures) (c .before .before .before .before .enum-told4 .given .1)))
 
 term-returns-5 : (t : ℕ) → term-lts.Need-returns-5 (term-callees t) (term-at t) term.Post
-term-returns-5 t c = wrote-as (c .before .before .one .ensures) (sym (node-text (c .before .before .before .before .before .before .before .before .before .before .pre .1 .0) (c .before .before .before .before .before .before .before .record-at .ensures) (c .before .before .before .before .before .before .shape-of .ensures) (c .before .before .before .before .enum-told5 .given .1)))
+term-returns-5 t c =
+    let at-shape-of = c .before .before .before .before .before .before in
+    let at-record-at = at-shape-of .before in
+    let start = at-record-at .before .before .before in
+    wrote-as (c .before .before .one .ensures) (sym (node-text (start .pre .1 .0) (at-record-at .record-at .ensures) (at-shape-of .shape-of .ensures) (c .before .before .before .before .enum-told5 .given .1)))
 
 term-returns-6 : (t : ℕ) → term-lts.Need-returns-6 (term-callees t) (term-at t) term.Post
-term-returns-6 t c = wrote-as (c .before .before .two .ensures) (sym (node-text (c .before .before .before .before .before .before .before .before .before .before .pre .1 .0) (c .before .before .before .before .before .before .before .record-at .ensures) (c .before .before .before .before .before .before .shape-of .ensures) (c .before .before .before .before .enum-told6 .given .1)))
+term-returns-6 t c =
+    let at-shape-of = c .before .before .before .before .before .before in
+    let at-record-at = at-shape-of .before in
+    let start = at-record-at .before .before .before in
+    wrote-as (c .before .before .two .ensures) (sym (node-text (start .pre .1 .0) (at-record-at .record-at .ensures) (at-shape-of .shape-of .ensures) (c .before .before .before .before .enum-told6 .given .1)))
 
 term-returns-7 : (t : ℕ) → term-lts.Need-returns-7 (term-callees t) (term-at t) term.Post
-term-returns-7 t c = wrote-as (c .before .before .three .ensures) (sym (node-text (c .before .before .before .before .before .before .before .before .before .before .pre .1 .0) (c .before .before .before .before .before .before .before .record-at .ensures) (c .before .before .before .before .before .before .shape-of .ensures) (c .before .before .before .before .enum-told7 .given .1)))
+term-returns-7 t c =
+    let at-shape-of = c .before .before .before .before .before .before in
+    let at-record-at = at-shape-of .before in
+    let start = at-record-at .before .before .before in
+    wrote-as (c .before .before .three .ensures) (sym (node-text (start .pre .1 .0) (at-record-at .record-at .ensures) (at-shape-of .shape-of .ensures) (c .before .before .before .before .enum-told7 .given .1)))
 
 three-operand-requires : (t : ℕ) → three-lts.Need-operand-requires (three-callees t) (three-at t) three.Post
 three-operand-requires t c κs = (omega arith, (c .before .before .before .before .before .before .before .pre .1 .0, omega arith))
@@ -162,7 +192,12 @@ three-operand-requires-3 : (t : ℕ) → three-lts.Need-operand-requires-3 (thre
 three-operand-requires-3 t c κs = (omega arith, (c .before .before .before .before .before .before .before .before .before .before .before .before .before .before .before .pre .1 .2, omega arith))
 
 three-returns : (t : ℕ) → three-lts.Need-returns (three-callees t) (three-at t) three.Post
-three-returns t c = wrote-three (omega arith) (c .before .before .before .before .before .before .before .before .before .before .before .before .before .before .before .before .before .before .before .head .ensures) (c .before .before .before .before .before .before .before .before .before .before .before .before .before .before .before .operand .ensures) (c .before .before .before .before .before .before .before .before .before .before .before .operand2 .ensures) (c .before .before .before .before .before .before .before .operand3 .ensures) (c .before .before .put .ensures)
+three-returns t c =
+    let at-operand3 = c .before .before .before .before .before .before .before in
+    let at-operand2 = at-operand3 .before .before .before .before in
+    let at-operand = at-operand2 .before .before .before .before in
+    let at-head = at-operand .before .before .before .before in
+    wrote-three (omega arith) (at-head .head .ensures) (at-operand .operand .ensures) (at-operand2 .operand2 .ensures) (at-operand3 .operand3 .ensures) (c .before .before .put .ensures)
 
 two-operand-requires : (t : ℕ) → two-lts.Need-operand-requires (two-callees t) (two-at t) two.Post
 two-operand-requires t c κs = (omega arith, (c .before .before .before .before .before .before .before .pre .1 .0, omega arith))
@@ -171,7 +206,11 @@ two-operand-requires-2 : (t : ℕ) → two-lts.Need-operand-requires-2 (two-call
 two-operand-requires-2 t c κs = (omega arith, (c .before .before .before .before .before .before .before .before .before .before .before .pre .1 .1, omega arith))
 
 two-returns : (t : ℕ) → two-lts.Need-returns (two-callees t) (two-at t) two.Post
-two-returns t c = wrote-two (omega arith) (c .before .before .before .before .before .before .before .before .before .before .before .before .before .before .before .head .ensures) (c .before .before .before .before .before .before .before .before .before .before .before .operand .ensures) (c .before .before .before .before .before .before .before .operand2 .ensures) (c .before .before .put .ensures)
+two-returns t c =
+    let at-operand2 = c .before .before .before .before .before .before .before in
+    let at-operand = at-operand2 .before .before .before .before in
+    let at-head = at-operand .before .before .before .before in
+    wrote-two (omega arith) (at-head .head .ensures) (at-operand .operand .ensures) (at-operand2 .operand2 .ensures) (c .before .before .put .ensures)
 
 pub +one+operand+term+three+two-spec : {M : Type 1} → statement M
 +one+operand+term+three+two-spec = close μ-one μ-operand μ-term μ-three μ-two (λ t. one-lts.spec (one-callees t)

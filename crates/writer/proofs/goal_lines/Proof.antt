@@ -16,10 +16,18 @@ operand-requires : tie.Need-operand-requires
 operand-requires c κs = let g = c .before .before .before .before .before .before .goal-node .ensures in (goal-ready _ (c .before .before .before .before .before .before .before .before .before .pre .0) g, omega (arith, goal-length _ (c .before .before .before .before .before .before .before .before .before .pre .0), ap (λ n. length (textAt (c .before .before .before .before .before .before .before .before .before .args .sheet .now) n)) g))
 
 put-requires-2 : tie.Need-put-requires-2
-put-requires-2 c κs = omega (arith, goal-length _ (c .before .before .before .before .before .before .before .before .before .before .before .before .before .before .pre .0), ap (λ n. length (textAt (c .before .before .before .before .before .before .before .before .before .before .before .before .before .before .args .sheet .now) n)) (c .before .before .before .before .before .before .before .before .before .before .before .goal-node .ensures))
+put-requires-2 c κs =
+    let at-goal-node = c .before .before .before .before .before .before .before .before .before .before .before in
+    let start = at-goal-node .before .before .before in
+    omega (arith, goal-length _ (start .pre .0), ap (λ n. length (textAt (start .args .sheet .now) n)) (at-goal-node .goal-node .ensures))
 
 returns : tie.Need-returns
-returns c = wrote-as (chain3 (omega (arith, goal-length _ (c .before .before .before .before .before .before .before .before .before .before .before .before .before .before .before .before .before .pre .0), ap (λ n. length (textAt (c .before .before .before .before .before .before .before .before .before .before .before .before .before .before .before .before .before .args .sheet .now) n)) (c .before .before .before .before .before .before .before .before .before .before .before .before .before .before .goal-node .ensures))) (c .before .before .before .before .before .before .before .before .before .before .before .put .ensures) (c .before .before .before .before .before .before .before .operand .ensures) (c .before .before .put2 .ensures)) (goal-from _ (c .before .before .before .before .before .before .before .before .before .before .before .before .before .before .goal-node .ensures))
+returns c =
+    let at-operand = c .before .before .before .before .before .before .before in
+    let at-put = at-operand .before .before .before .before in
+    let at-goal-node = at-put .before .before .before in
+    let start = at-goal-node .before .before .before in
+    wrote-as (chain3 (omega (arith, goal-length _ (start .pre .0), ap (λ n. length (textAt (start .args .sheet .now) n)) (at-goal-node .goal-node .ensures))) (at-put .put .ensures) (at-operand .operand .ensures) (c .before .before .put2 .ensures)) (goal-from _ (at-goal-node .goal-node .ensures))
 
 pub goal-lines-spec : {M : Type 1} → statement M
 goal-lines-spec =

@@ -14,18 +14,32 @@ put-requires : tie.Need-put-requires
 put-requires c κs = omega (arith, script-parts _ (c .before .before .before .before .before .pre .0) (c .before .before .variable-count .ensures))
 
 declarations-requires : tie.Need-declarations-requires
-declarations-requires c κs = (omega (arith, accepted-counted _ (c .before .before .before .before .before .before .before .before .before .pre .0) .few), omega (arith, script-parts _ (c .before .before .before .before .before .before .before .before .before .pre .0) (c .before .before .before .before .before .before .variable-count .ensures)))
+declarations-requires c κs =
+    let at-variable-count = c .before .before .before .before .before .before in
+    let start = at-variable-count .before .before .before in
+    (omega (arith, accepted-counted _ (start .pre .0) .few), omega (arith, script-parts _ (start .pre .0) (at-variable-count .variable-count .ensures)))
 
 range-lines-requires : tie.Need-range-lines-requires
-range-lines-requires c κs = (first-block _ (c .before .before .before .before .before .before .before .before .before .before .before .before .before .pre .0), omega (arith, accepted-counted _ (c .before .before .before .before .before .before .before .before .before .before .before .before .before .pre .0) .few), omega (arith, script-parts _ (c .before .before .before .before .before .before .before .before .before .before .before .before .before .pre .0) (c .before .before .before .before .before .before .before .before .before .before .variable-count .ensures)))
+range-lines-requires c κs =
+    let at-variable-count = c .before .before .before .before .before .before .before .before .before .before in
+    let start = at-variable-count .before .before .before in
+    (first-block _ (start .pre .0), omega (arith, accepted-counted _ (start .pre .0) .few), omega (arith, script-parts _ (start .pre .0) (at-variable-count .variable-count .ensures)))
 
 goal-lines-requires : tie.Need-goal-lines-requires
-goal-lines-requires c κs = (c .before .before .before .before .before .before .before .before .before .before .before .before .before .before .before .before .before .pre .0, omega (arith, script-parts _ (c .before .before .before .before .before .before .before .before .before .before .before .before .before .before .before .before .before .pre .0) (c .before .before .before .before .before .before .before .before .before .before .before .before .before .before .variable-count .ensures)))
+goal-lines-requires c κs =
+    let at-variable-count = c .before .before .before .before .before .before .before .before .before .before .before .before .before .before in
+    let start = at-variable-count .before .before .before in
+    (start .pre .0, omega (arith, script-parts _ (start .pre .0) (at-variable-count .variable-count .ensures)))
 
 returns : tie.Need-returns
 returns c =
-    wrote-as (chain4 (omega (arith, script-parts _ (c .before .before .before .before .before .before .before .before .before .before .before .before .before .before .before .before .before .before .before .before .pre .0) (c .before .before .before .before .before .before .before .before .before .before .before .before .before .before .before .before .before .variable-count .ensures))) (c .before .before .before .before .before .before .before .before .before .before .before .before .before .before .put .ensures) (c .before .before .before .before .before .before .before .before .before .before .declarations .ensures) (c .before .before .before .before .before .before .range-lines .ensures) (c .before .before .goal-lines .ensures))
-    (script-from _ (c .before .before .before .before .before .before .before .before .before .before .before .before .before .before .before .before .before .before .before .before .pre .0) (c .before .before .before .before .before .before .before .before .before .before .before .before .before .before .before .before .before .variable-count .ensures))
+    let at-range-lines = c .before .before .before .before .before .before in
+    let at-declarations = at-range-lines .before .before .before .before in
+    let at-put = at-declarations .before .before .before .before in
+    let at-variable-count = at-put .before .before .before in
+    let start = at-variable-count .before .before .before in
+    wrote-as (chain4 (omega (arith, script-parts _ (start .pre .0) (at-variable-count .variable-count .ensures))) (at-put .put .ensures) (at-declarations .declarations .ensures) (at-range-lines .range-lines .ensures) (c .before .before .goal-lines .ensures))
+    (script-from _ (start .pre .0) (at-variable-count .variable-count .ensures))
 
 pub put-script-spec : {M : Type 1} → statement M
 put-script-spec =

@@ -4,11 +4,12 @@ use mathlib.Core.Path.{_≡_, ap}
 use native.Mathlib.Omega.{arith}
 use borrow.Author.Needs.{needs}
 use lib.ListN.{length}
-use Rattle.layout.specs.Parts.{ruleIn}
+use Rattle.layout.specs.Parts.{variableCount, ruleIn}
 use Rattle.reading.proofs.RuleLaws.{accepted-counted}
 use Rattle.wording.specs.Script.{script}
-use Rattle.lines.specs.Lines.{variablesLength}
+use Rattle.lines.specs.Lines.{LinesSize}
 use Rattle.terms.specs.Texts.{textAt}
+use Rattle.writer.specs.Ending.{frameBytes}
 use Rattle.writer.proofs.ScriptLaws.{first-block, goal-ready, script-length, script-short}
 use Rattle.writer.proofs.script_len.Statement.{statement}
 use Rattle.writer.proofs.script_len.Tie as tie
@@ -22,10 +23,12 @@ term-len-requires c κs = goal-ready _ (c .before .before .before .pre) (c .goal
 variables-len-requires : tie.Need-variables-len-requires
 variables-len-requires c κs = omega (arith, accepted-counted _ (c .before .before .before .before .pre) .few)
 
-whole : (c : tie.After-variables-len) → c .variables-len .result + c .before .term-len .result + 55 ≡ length (script (ruleIn (c .before .before .before .before .before .args .sheet .now)))
+whole : (c : tie.After-variables-len) → c .variables-len .result + c .before .term-len .result + frameBytes ≡ length (script (ruleIn (c .before .before .before .before .before .args .sheet .now)))
 whole c =
-    let p = c .before .before .before .before .before .pre in
-    omega (arith, script-length _ p, ap (λ n. length (textAt (c .before .before .before .before .before .args .sheet .now) n)) (c .before .before .goal-node .ensures), ap variablesLength (c .before .before .before .variable-count .ensures))
+    let v = c .before .before .before in
+    let a = v .before .before in
+    let l : LinesSize (variableCount (a .args .sheet .now)) (c .variables-len .result) = rw (← v .variable-count .ensures) (c .variables-len .ensures) in
+    omega (arith, script-length _ (a .pre) l, ap (λ n. length (textAt (a .args .sheet .now) n)) (c .before .before .goal-node .ensures))
 
 add-result : tie.Need-add-result
 add-result c = omega (arith, whole c, script-short _ (c .before .before .before .before .before .pre))
