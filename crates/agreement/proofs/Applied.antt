@@ -4,7 +4,7 @@ use Prim.Native.Nat.{ℕ, _+_, _/_, _≤_, _<_}
 use mathlib.Core.Path.{_≡_, refl, sym, ap, _∙_}
 use mathlib.Core.Logic.{inl, ⊎-elim}
 use mathlib.Core.Bool.{Bool, true}
-use mathlib.Core.List.{List, [], _∷_, _++_}
+use mathlib.Core.List.{List, [], _∷_, _++_, List·Memᴰ·head, List·Memᴰ·tail}
 use mathlib.Core.Option.{Option, none, some}
 use native.Mathlib.Omega.{arith}
 use denote.Ref.{RefT}
@@ -19,10 +19,14 @@ use Rattle.numbers.specs.Two.{enc, dec}
 use Rattle.numbers.specs.Bytes.{byteAt}
 use Rattle.numbers.specs.Ranges.{Narrow, In, _⋯_, isNarrow, hasNarrowEnds, leastOf, greatestOf}
 use Rattle.meaning.specs.Value.{value}
-use Rattle.meaning.specs.Rule.{Case}
+use Rattle.meaning.specs.Tree.{var}
+use Rattle.meaning.specs.Rule.{Case, valueIn}
 use Rattle.meaning.specs.Cases.{sizeOf, casesOf, holds, AllHold, failures, firstFailure, held, failed}
+use Rattle.meaning.specs.CaseOrder.{FirstFailing}
 use Rattle.meaning.proofs.Failures.{first-fails}
+use Rattle.kinds.specs.declared.Kind.{Kind}
 use Rattle.kinds.specs.Kinds.{find, kindOf}
+use Rattle.kinds.specs.Rows.{itself, operand}
 use Rattle.layout.specs.Limits.{blockBytes}
 use Rattle.layout.specs.Checks.{weighted, checkOf, blockRight}
 use Rattle.layout.specs.Starts.{startAt}
@@ -66,9 +70,10 @@ use Rattle.forms.proofs.Sexps.{width16}
 use Rattle.forms.proofs.Spelt.{width-spelled}
 use Rattle.writer.specs.Writes.{enoughRoom}
 use Rattle.agreement.specs.Starred.{sheetFrom, sheetA, sheet8, sheet11}
-use Rattle.agreement.specs.Statements.{Sheet, settingOf, Matched, Listed}
+use Rattle.agreement.specs.Statements.{Sheet, settingOf, Matched, SettingsListed}
+use Rattle.agreement.proofs.Rooms.{rooms-kept}
 use Rattle.agreement.proofs.Proved.{held as held-in-16}
-use Rattle.agreement.proofs.Proved.{tallied, checked, sheet-of-rule, rule-of-sheet, one-byte-changed, holds-where, room-enough, name-empty, block-empty, match, match-in-bits, check-agrees, tally-agrees, same-script}
+use Rattle.agreement.proofs.Proved.{tallied, checked, sheet-of-rule, rule-of-sheet, one-byte-changed, holds-where, first-named, in-sixteen, room-enough, name-empty, block-empty, match, match-in-bits, check-agrees, tally-agrees, same-script}
 
 -- ---- what is computed of a sheet, and of one with other names
 pub record Facts : Type 0 where
@@ -149,7 +154,7 @@ module _ {s other : List ℕ} {heldCases failedCases : ℕ} {firstCase : Option 
   pub matches-in-bits : Matched 16 symbolText (ruleIn s) (scriptBy (bitsLiteral 16) symbolText width16 (ruleIn s))
   matches-in-bits = match-in-bits width16 width-spelled (lit≤ tt) (ruleIn s) (allowed-sheet .0 .well-formed) (held-in-16 sheet)
 
-  pub as-many : (ts : List (List ℕ)) × Listed (script (ruleIn s)) ts × (failedCases ≡ length ts)
+  pub as-many : (ts : List (List ℕ)) × SettingsListed (script (ruleIn s)) ts × (failedCases ≡ length ts)
   as-many = tally-agrees s sheet few-cases _ tally-is
 
   -- byte 10 is of variable 0's domain
@@ -180,6 +185,13 @@ module _ {s other : List ℕ} {heldCases failedCases : ℕ} {firstCase : Option 
     -- and the case that the check names gives one
     pub named-setting : {first : List ℤ} → (e : firstCase ≡ some first) → Satisfies (script (ruleIn s)) (settingOf 16 (take (variableCount s) (first ++ drop (length first) room)))
     named-setting e = check-agrees s sheet few-cases room _ Fails (enough room three) (fails-as e) .1 refl
+
+    -- which is the first that fails; the number past it stays
+    pub first-named-as : {first : List ℤ} → firstCase ≡ some first → FirstFailing (ruleIn s) (take (variableCount s) (first ++ drop (length first) room))
+    first-named-as e = first-named s sheet few-cases room _ (enough room three) (fails-as e)
+
+    pub past-kept : {first : List ℤ} → firstCase ≡ some first → drop (variableCount s) (first ++ drop (length first) room) ≡ drop (variableCount s) room
+    past-kept e = rooms-kept s .0 room _ Fails (fails-as e) .past
 
     -- a rule that holds: none does
     pub no-setting : firstCase ≡ none → (t : List ℕ) → Satisfies (script (ruleIn s)) t → ⊥
@@ -219,7 +231,13 @@ pub named-A : Satisfies (script (ruleIn sheetA)) (0 ∷ 1 ∷ [])
 unfolding enc
 named-A = named-setting computedA (lit≤ tt) three refl refl
 
-pub two-settings-A : (ts : List (List ℕ)) × Listed (script (ruleIn sheetA)) ts × (2 ≡ length ts)
+pub first-A : FirstFailing (ruleIn sheetA) (pos 0 ∷ pos 1 ∷ [])
+first-A = first-named-as computedA (lit≤ tt) three refl refl
+
+pub past-A : drop 2 (pos 0 ∷ pos 1 ∷ pos 9 ∷ []) ≡ drop 2 three
+past-A = past-kept computedA (lit≤ tt) three refl refl
+
+pub two-settings-A : (ts : List (List ℕ)) × SettingsListed (script (ruleIn sheetA)) ts × (2 ≡ length ts)
 two-settings-A = as-many computedA (lit≤ tt)
 
 pub names-alone-A : (length sheetA ≡ length sheetB) × (byteAt sheetA 10 ≡ byteAt sheetB 10)
@@ -243,7 +261,7 @@ declared-in-bits-11 = matches-in-bits computed11 (lit≤ tt) .declares
 pub holds-11 : AllHold (ruleIn sheet11)
 holds-11 = all-hold computed11 (lit≤ tt) three refl refl
 
-pub no-settings-11 : (ts : List (List ℕ)) × Listed (script (ruleIn sheet11)) ts × (0 ≡ length ts)
+pub no-settings-11 : (ts : List (List ℕ)) × SettingsListed (script (ruleIn sheet11)) ts × (0 ≡ length ts)
 no-settings-11 = as-many computed11 (lit≤ tt)
 
 pub names-alone-11 : (length sheet11 ≡ length sheet11-renamed) × (byteAt sheet11 10 ≡ byteAt sheet11-renamed 10)
@@ -259,6 +277,11 @@ range-A h k = (in-range sheetA (accepts computedA (lit≤ tt)) k h finding-A, in
 
 pub case-A : Case (ruleIn sheetA) (pos 0 ∷ pos 1 ∷ [])
 case-A = first-fails (ruleIn sheetA) (first-is computedA (lit≤ tt)) .0
+
+-- ---- the second operand of its goal, in that case
+pub sixteen-A : Narrow (value (valueIn (pos 0 ∷ pos 1 ∷ [])) (var 1))
+unfolding below course treeAt dec find kindOf
+sixteen-A = in-sixteen sheetA (sheet computedA (lit≤ tt)) (pos 0 ∷ pos 1 ∷ []) case-A (var 1) (operand Kind.Equal (var 0, var 1) (List·Memᴰ·tail (List·Memᴰ·head refl)) itself)
 
 -- ---- a sheet that is refused: 16,384 + 16,384 at node 2
 pub refusal-8 : refusalOf sheet8 ≡ some (record { number = 8; place = 2 })

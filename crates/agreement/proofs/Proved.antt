@@ -54,7 +54,7 @@ use Rattle.forms.proofs.MeansScript.{form-means, held16}
 use Rattle.writer.proofs.ScriptLaws.{script-short}
 use Rattle.writer.proofs.Exact.{script-exactly}
 use Rattle.agreement.specs.Statements as promise
-use Rattle.agreement.specs.Statements.{Sheet, settingOf, Matched, Listed}
+use Rattle.agreement.specs.Statements.{Sheet, settingOf, Matched, SettingsListed}
 
 -- ---- demand 1
 pub refused-by-row : promise.RefusedExactly
@@ -170,7 +170,7 @@ check-agrees s h few before after r l c =
         matched s h .satisfies first (room-fails s c e p .0 .failing)
 
 -- each failing case's setting, in the order of the cases
-all-listed : (s : List ℕ) → Sheet s → Listed (script (ruleIn s)) (map (settingOf 16) (failures (ruleIn s)))
+all-listed : (s : List ℕ) → Sheet s → SettingsListed (script (ruleIn s)) (map (settingOf 16) (failures (ruleIn s)))
 all-listed s h = record { once = once; are = λ t. (to t, back t) }
   where
     once : NoRepeats (map (settingOf 16) (failures (ruleIn s)))

@@ -182,14 +182,14 @@ CheckAgrees =
     → ((r ≡ Fails) ↔ ((t : List ℕ) × Satisfies (script (ruleIn s)) t)) × (r ≡ Fails → Satisfies (script (ruleIn s)) (settingOf 16 (take (variableCount s) after)))
 
 -- the settings that satisfy the script, each once, are as many as the tally's failed count says
-pub record Listed (text : List ℕ) (ts : List (List ℕ)) : Type 0 where
+pub record SettingsListed (text : List ℕ) (ts : List (List ℕ)) : Type 0 where
   pub once : NoRepeats ts
   pub are : (t : List ℕ) → List·Memᴰ t ts ↔ Satisfies text t
 
 abbrev pub TallyAgrees : Type 0
 TallyAgrees =
     (s : List ℕ) → Sheet s → caseCount (ruleIn s) ≤ mostCases → (r : Tallied) → Tallies s r
-    → (ts : List (List ℕ)) × Listed (script (ruleIn s)) ts × (r .failed ≡ length ts)
+    → (ts : List (List ℕ)) × SettingsListed (script (ruleIn s)) ts × (r .failed ≡ length ts)
 
 -- two accepted sheets with the same script have one length, and differ in no byte but name lengths, names and block 0's check
 abbrev pub SameScript : Type 0

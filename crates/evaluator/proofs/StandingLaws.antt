@@ -22,7 +22,7 @@ use Rattle.meaning.specs.Cases.{holds}
 use Rattle.meaning.proofs.Row.{same-values}
 use Rattle.layout.specs.Limits.{nodeBytes, nodePlace}
 use Rattle.layout.specs.Goal.{ofSort, treeAt}
-use Rattle.layout.specs.Parts.{nodeCount, variableCount, table, ruleIn}
+use Rattle.layout.specs.Parts.{nodeCount, goalAt, variableCount, table, ruleIn}
 use Rattle.layout.proofs.GoalLaws.{operand-as, operand-from}
 use Rattle.header.specs.Header.{Counted}
 use Rattle.header.proofs.HeaderLaws.{node-inside}
@@ -74,12 +74,12 @@ module _ {s : List ℕ} {numbers : List ℤ} (ok : Standing s numbers) where
   pub word-is : {n : ℕ} → n < nodeCount s → {x : ℤ} → x ≡ numberAt s numbers n → word x ≡ numberAt s numbers n
   word-is l e = toZ-ofZ (narrow-fits (narrow l e)) ∙ e
 
-  goal-below : nodeCount s - 1 < nodeCount s
+  goal-below : goalAt s < nodeCount s
   goal-below = omega (arith, counted .some-node)
 
   -- the number of the last of the m nodes stands for whether the rule holds in the row's case
   pub goal-holds : {m : ℕ} → m ≡ nodeCount s → {x : ℤ} → x ≡ numberAt s numbers (m - 1) → isTrue (word x) ≡ holds (ruleIn s) (take (variableCount s) numbers)
   unfolding holds
   goal-holds em {x} ex =
-      let goal = operand-as (λ (a : Sort) (t : Tree a). numberAt s numbers (nodeCount s - 1) ≡ numberOf a (value (valueIn numbers) t)) (table s) (nodeCount s - 1) (accepted-sound s (ok .accepted) .goal) refl in
+      let goal = operand-as (λ (a : Sort) (t : Tree a). numberAt s numbers (goalAt s) ≡ numberOf a (value (valueIn numbers) t)) (table s) (goalAt s) (accepted-sound s (ok .accepted) .goal) refl in
       rw (word-is goal-below (rw em at ex), goal, ← as-case) (bit-true _)

@@ -1,4 +1,4 @@
--- The values of nodes as numbers: a truth value is 1 or 0. What a node's number is, from those of its operands.
+-- Follows the code: the values of nodes as numbers, a truth value being 1 or 0, and what a node's number is from those of its operands.
 use Prim.Native.Nat.{ℕ}
 use mathlib.Core.Bool.{Bool, true, false}
 use lib.IntN.{ℤ, pos, negℤ, _+ℤ_, _-ℤ_, _*ℤ_}

@@ -1,10 +1,11 @@
--- A finding as one number, for the code's contracts alone: an array of numbers can be lent, one of findings can't.
+-- Follows the code: a finding as one number, since an array of numbers can be lent, and one of findings can't.
 use Prim.Native.Nat.{ℕ, _+_, _-_, _*_, _/_, _%_}
 use mathlib.Core.Bool.{true, false}
 use mathlib.Core.List.{List}
 use lib.Dec.{eqb}
 use lib.IntN.{ℤ, pos, natAbs, _+ℤ_, _-ℤ_}
 use Rattle.lists.specs.Places.{at}
+use Rattle.numbers.specs.Bytes.{wordLimit}
 use Rattle.numbers.specs.Ranges.{_⋯_}
 use Rattle.findings.specs.declared.Finding.{Finding}
 use Rattle.findings.specs.declared.Finding.the-variants.{Truth, Integer}
@@ -19,10 +20,10 @@ atHeight n = pos n -ℤ pos 32768
 -- 0 stands for a truth value, another number for a range by its ends' heights
 abbrev pub packedOf : Finding → ℕ
 packedOf Truth = 0
-packedOf (Integer r) = 1 + (65536 * heightOf (r .low) + heightOf (r .high))
+packedOf (Integer r) = 1 + (wordLimit * heightOf (r .low) + heightOf (r .high))
 
 abbrev pub unpackedOf : ℕ → Finding
-unpackedOf n = elim (eqb n 0) [ true ↦ Truth | false ↦ Integer (atHeight ((n - 1) / 65536 % 65536) ⋯ atHeight ((n - 1) % 65536)) ]
+unpackedOf n = elim (eqb n 0) [ true ↦ Truth | false ↦ Integer (atHeight ((n - 1) / wordLimit % wordLimit) ⋯ atHeight ((n - 1) % wordLimit)) ]
 
 -- what the nodes were found to be
 abbrev pub findingsIn : List ℕ → ℕ → Finding

@@ -1,4 +1,4 @@
--- The test of operands' sorts, which the cascade uses, and the answer at a node as the code works it out, which its contracts cite: rows and statements do without both.
+-- Follows the code: the test of operands' sorts, which the cascade uses, and the answer at a node, which contracts cite; rows and statements do without.
 use Prim.Native.Nat.{ℕ, _<_}
 use mathlib.Core.Bool.{Bool, true, false, _&&_}
 use mathlib.Core.List.{List, [], _∷_}

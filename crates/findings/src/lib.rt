@@ -2,6 +2,7 @@
 ghost use mathlib.Core.Path.{_≡_};
 ghost use Prim.Native.Nat.{_≤_, _<_};
 ghost use lib.ListN.{length};
+ghost use Rattle.numbers.specs.Bytes.{wordLimit};
 ghost use Rattle.numbers.specs.Two.{dec};
 ghost use Rattle.numbers.specs.Ranges.{_⋯_, Narrow, NarrowEnds};
 ghost use Rattle.layout.specs.Limits.{blockBytes, mostVariables, mostNodes};
@@ -37,16 +38,19 @@ enum Operand {
     Right(Range),
 }
 
+// How many numbers have 16 bits.
+const HEIGHTS: u64 = 65536;
+
 // How far a number of 16 bits lies above the least, -32768.
 fn height(x: i32) -> u64
     requires { ⌜ Narrow x ⌝ }
-    ensures { λ r. ⌜ (r ≡ heightOf x) × (r < 65536) ⌝ }
+    ensures { λ r. ⌜ (r ≡ heightOf x) × (r < wordLimit) ⌝ }
 {
     (x + 32768) as u64
 }
 
 fn at_height(n: u64) -> i32
-    requires { ⌜ n < 65536 ⌝ }
+    requires { ⌜ n < wordLimit ⌝ }
     ensures { λ r. ⌜ r ≡ atHeight n ⌝ }
 {
     n as i32 - 32768
@@ -62,7 +66,7 @@ pub fn packed(f: Finding) -> u64
     };
     let low = height(r.low);
     let high = height(r.high);
-    1 + (65536 * low + high)
+    1 + (HEIGHTS * low + high)
 }
 
 fn unpacked(n: u64) -> Finding
@@ -72,8 +76,8 @@ fn unpacked(n: u64) -> Finding
         return Finding::Truth;
     }
     let ends = n - 1;
-    let low = at_height(ends / 65536 % 65536);
-    let high = at_height(ends % 65536);
+    let low = at_height(ends / HEIGHTS % HEIGHTS);
+    let high = at_height(ends % HEIGHTS);
     Finding::Integer(Range { low, high })
 }
 

@@ -1,4 +1,4 @@
--- The lines of a script that are about variables, one by one, and how many bytes they are: what the functions of this crate write and count.
+-- Follows the code: the lines of a script that are about variables, one by one, and how many bytes they are.
 use Prim.Native.Nat.{ℕ, _+_}
 use mathlib.Core.Path.{_≡_}
 use mathlib.Core.List.{List, _++_}

@@ -1,4 +1,4 @@
--- Refusal 6 at a node as a test, for the cascade and the code: `Placed` of layout says the same in propositions.
+-- Follows the code: refusal 6 at a node as a test; `Placed` of layout says the same in propositions.
 use Prim.Native.Nat.{ℕ, _+_, _≤_, _<_}
 use mathlib.Core.Bool.{Bool, true, false, _&&_}
 use mathlib.Core.List.{List, [], _∷_}

@@ -1,4 +1,4 @@
--- The pieces of a failing check's line, by the numbers of the variables, and what is asked of the row of values.
+-- Follows the code: the pieces of a failing check's line, by the numbers of the variables, and what is asked of the row of values.
 use Prim.Native.Nat.{ℕ, _≤_, _<_}
 use mathlib.Core.Path.{_≡_}
 use mathlib.Core.List.{List, _++_}

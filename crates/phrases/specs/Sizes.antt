@@ -1,4 +1,4 @@
--- How long the phrases of an answer can be: what their functions ask of the room.
+-- Follows the code: how long the phrases of an answer can be, which is what their functions ask of the room.
 use Prim.Native.Nat.{ℕ, _+_, _*_}
 use lib.ListN.{length}
 use Rattle.lists.specs.Ascii.{ascii}

@@ -1,4 +1,4 @@
--- How many bytes the pieces of a script have.
+-- Follows the code: how many bytes the pieces of a script have.
 use Prim.Native.Nat.{ℕ}
 
 -- the most letters of a word

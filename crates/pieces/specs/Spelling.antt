@@ -1,4 +1,4 @@
--- A word in a row of letters: the first of them.
+-- Follows the code: a word in a row of letters, the first of them.
 use Prim.Native.Nat.{ℕ, _≤_}
 use mathlib.Core.Path.{_≡_}
 use mathlib.Core.List.{List}

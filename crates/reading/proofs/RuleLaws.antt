@@ -20,7 +20,7 @@ use Rattle.layout.specs.Limits.{nameStart, blocksFor, variablePlace}
 use Rattle.layout.specs.Checks.{blockRight}
 use Rattle.layout.specs.Starts.{sortAt, startAt, Typed}
 use Rattle.layout.specs.Goal.{treeAt}
-use Rattle.layout.specs.Parts.{nodeCount, variableCount, nameSize, nameIn, table, ruleIn}
+use Rattle.layout.specs.Parts.{nodeCount, goalAt, variableCount, nameSize, nameIn, table, ruleIn}
 use Rattle.layout.specs.LaidOut.{Placed, Sound, LaidOut}
 use Rattle.layout.specs.Fold.{ofTree}
 use Rattle.layout.specs.Sheet.{sheetOf}
@@ -97,8 +97,8 @@ module _ (s : List ℕ) where
 
   record NodesRight : Type 0 where
     each : (n : ℕ) → n < nodeCount s → NodeRight n
-    whole : startAt (table s) (nodeCount s - 1) ≡ 0
-    goal : sortAt (table s) (nodeCount s - 1) ≡ Truth
+    whole : startAt (table s) (goalAt s) ≡ 0
+    goal : sortAt (table s) (goalAt s) ≡ Truth
 
   nodes-right : nodes s ≡ none → NodesRight
   unfolding nodes

@@ -9,7 +9,7 @@ use Rattle.numbers.specs.Bytes.{byteAt}
 use Rattle.numbers.specs.Ranges.{NarrowEnds}
 use Rattle.meaning.specs.declared.Sort.the-variants.{Truth}
 use Rattle.kinds.specs.Rows.{Known}
-use Rattle.layout.specs.Limits.{blockBytes, mostVariables, nodeBytes, spareOffset, spareStart, mostNodes, blocksFor, mostBlocks, nodePlace}
+use Rattle.layout.specs.Limits.{blockBytes, mostVariables, nodeBytes, spareOffset, spareStart, mostNodes, blocksFor, mostSheetBytes, nodePlace}
 use Rattle.layout.specs.Checks.{checkOf, content, storedCheck}
 use Rattle.layout.specs.Starts.{shapeAt, sortAt, operandsOf, UnusedZero, VariableBelow, startAt, Ordered, Typed}
 use Rattle.layout.specs.Parts.{edition, nodeCount, goalAt, variableCount, table}
@@ -22,7 +22,7 @@ use Rattle.findings.specs.Findings.{findingAt}
 pub data Row1 (s : List ℕ) : Type 0 where
   empty : length s ≡ 0 → Row1 s
   ragged : (length s % blockBytes ≡ 0 → ⊥) → Row1 s
-  long : blockBytes * mostBlocks < length s → Row1 s
+  long : mostSheetBytes < length s → Row1 s
 
 -- 2: the check of block k is wrong
 abbrev pub Row2 : List ℕ → ℕ → Type 0

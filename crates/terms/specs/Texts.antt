@@ -1,4 +1,4 @@
--- The texts of nodes, by the sheet's records (document 01, column "text").
+-- Follows the code: the texts of nodes, by the sheet's records, and how long they can be.
 use Prim.Native.Nat.{ℕ, _+_, _*_, _<_}
 use mathlib.Core.Path.{_≡_}
 use mathlib.Core.List.{List, []}

@@ -1,4 +1,4 @@
--- The script's texts besides those of variables and of the goal, and its last lines: what the functions of this crate write and count.
+-- Follows the code: the script's texts besides those of variables and of the goal, and its last lines.
 use Prim.Native.Nat.{ℕ, _+_}
 use mathlib.Core.List.{List, _++_}
 use lib.ListN.{length}
