@@ -61,7 +61,6 @@ use Rattle.cases.specs.Tallies.{Tallies}
 use Rattle.smtlib.specs.Values.{bitVec}
 use Rattle.smtlib.specs.Commands.{Declaration}
 use Rattle.smtlib.specs.Satisfaction.{declared, Satisfies}
-use Rattle.wording.specs.Words.{wordOf}
 use Rattle.wording.specs.Sixteen.{hexDigit, hexText, literal, symbolText}
 use Rattle.wording.specs.Script.{script}
 use Rattle.forms.specs.Form.{scriptBy}

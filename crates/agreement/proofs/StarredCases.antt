@@ -34,7 +34,6 @@ use Rattle.odometer.specs.Limit.{mostCases, caseCount}
 use Rattle.cases.specs.declared.Checked.{Checked}
 use Rattle.cases.specs.Checks.{checkRefusal, checkedSaid, isSome, withCase, Checks}
 use Rattle.cases.specs.Tallies.{Tallies}
-use Rattle.wording.specs.Words.{wordOf}
 use Rattle.wording.specs.Sixteen.{hexDigit, hexText, literal, symbolText}
 use Rattle.wording.specs.Script.{script}
 use Rattle.room.specs.Room.{over}

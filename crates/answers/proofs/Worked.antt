@@ -27,7 +27,6 @@ use Rattle.findings.specs.Findings.{findingOf}
 use Rattle.order.specs.Order.{rightlyPlaced}
 use Rattle.nodes.specs.Nodes.{typed, nodeRefusal, nodes}
 use Rattle.reading.specs.Cascade.{refusalOf}
-use Rattle.wording.specs.Words.{wordOf}
 use Rattle.wording.specs.Sixteen.{hexDigit, hexText, literal, symbolText}
 use Rattle.wording.specs.Script.{script}
 use Rattle.phrases.specs.Phrases.{decimalIn, decimal, signed, numbersLine, refusalLine, nameValue, nameValues}

@@ -13,7 +13,6 @@ use Rattle.numbers.specs.Bytes.{Bytes, u16At}
 use Rattle.numbers.proofs.Bytes16.{u16-lt, enc16-dec16}
 use Rattle.layout.specs.Limits.{variablePlace}
 use Rattle.layout.specs.Fold.{ofTree}
-use Rattle.wording.specs.Words.{wordOf}
 use Rattle.wording.specs.Sixteen.{hexText, literal, symbolText}
 use Rattle.pieces.specs.Sizes.{longestSymbol}
 use Rattle.pieces.proofs.PieceLaws.{hex-length, literal-length, symbol-short}

@@ -20,7 +20,6 @@ use Rattle.layout.proofs.FoldLaws.{goal-found}
 use Rattle.header.proofs.HeaderLaws.{block-inside}
 use Rattle.reading.specs.Cascade.{refusalOf}
 use Rattle.reading.proofs.RuleLaws.{accepted-counted, accepted-sound}
-use Rattle.wording.specs.Words.{wordOf}
 use Rattle.wording.specs.Text.{textStep, text}
 use Rattle.wording.specs.Sixteen.{literal, symbolText, widthText}
 use Rattle.wording.specs.Script.{claims, declarations, assertion, ended, script}
