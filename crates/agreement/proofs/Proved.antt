@@ -1,21 +1,20 @@
 -- The promises of `specs/Statements`, proved. Assumes nothing.
-use Prim.Native.Nat.{ℕ, suc, _+_, _*_, _≤_}
-use mathlib.Core.Path.{_≡_, refl, ap, subst, _∙_}
+use Prim.Native.Nat.{ℕ, _+_, _*_, _≤_}
+use mathlib.Core.Path.{_≡_, refl, subst, _∙_}
 use mathlib.Core.Logic.{_↔_, Iff·trans, _⊎_, inl, inr, ⊎-elim}
-use mathlib.Core.List.{List, [], _∷_, map, List·Memᴰ, Memᴰ·map, Memᴰ·of-map}
+use mathlib.Core.List.{List, [], map, List·Memᴰ, Memᴰ·map, Memᴰ·of-map}
 use mathlib.Core.Option.{Option, none, some}
 use native.Mathlib.Decide.{decLt, decLe}
 use native.Mathlib.Omega.{arith}
 use lib.IntN.{ℤ}
 use lib.ListN.{length, take, length-map}
-use Rattle.lists.specs.Places.{from, NoRepeats}
+use Rattle.lists.specs.Places.{NoRepeats}
 use Rattle.lists.proofs.PartLaws.{empty-where}
 use Rattle.numbers.proofs.Bytes16.{narrow-within}
 use Rattle.numbers.proofs.NarrowLaws.{in-narrow}
 use Rattle.meaning.specs.declared.Sort.{Sort}
-use Rattle.meaning.specs.declared.Sort.the-variants.{Truth, Integer}
-use Rattle.meaning.specs.Tree.{Tree}
-use Rattle.meaning.specs.Rule.{domainOf, Case, valueIn}
+use Rattle.meaning.specs.declared.Sort.the-variants.{Integer}
+use Rattle.meaning.specs.Rule.{domainOf}
 use Rattle.meaning.specs.Cases.{Failing, failures}
 use Rattle.meaning.proofs.Listed.{listed, in-order, in-every}
 use Rattle.meaning.proofs.Counts.{case-count, held-failed}

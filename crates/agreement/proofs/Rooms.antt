@@ -19,14 +19,12 @@ use Rattle.refusals.specs.declared.Refusal.{Refusal}
 use Rattle.refusals.specs.Said.{unless}
 use Rattle.reading.specs.Cascade.{refusalOf}
 use Rattle.cases.specs.declared.Checked.{Checked}
-use Rattle.cases.specs.declared.Checked.the-variants.{Holds}
-use Rattle.cases.specs.declared.Checked.the-variants.{Refused as Checked·Refused}
-use Rattle.cases.specs.Checks.{tryRefusal, checkRefusal, checkedSaid, verdict, roomAfter, Checks}
+use Rattle.cases.specs.Checks.{tryRefusal, checkRefusal, checkedSaid, Checks}
 use Rattle.wording.specs.Script.{script}
 use Rattle.room.specs.Room.{over}
 use Rattle.writer.specs.declared.Written.{Written}
 use Rattle.writer.specs.declared.Written.the-variants.{Script, Refused}
-use Rattle.writer.specs.Writes.{scriptRefusal, writtenSaid, scriptVerdict, scriptRoom, Writes}
+use Rattle.writer.specs.Writes.{scriptRefusal, writtenSaid, Writes}
 use Rattle.agreement.specs.Statements as promise
 use Rattle.agreement.specs.Statements.{CheckRoom, ScriptRoom}
 

@@ -4,7 +4,7 @@ use Prim.Native.Nat.{ℕ, _+_, _/_, _≤_, _<_}
 use mathlib.Core.Path.{_≡_}
 use mathlib.Core.Logic.{_↔_, _⊎_}
 use mathlib.Core.List.{List, map, List·Memᴰ}
-use mathlib.Core.Option.{none, some}
+use mathlib.Core.Option.{some}
 use lib.IntN.{ℤ}
 use lib.ListN.{length, set, take, drop}
 use denote.Ref.{RefT}

@@ -1,5 +1,5 @@
 -- Follows the code: refusals 1 and 2 as tests, the length, then the lowest block whose check is wrong.
-use Prim.Native.Nat.{ℕ, _*_, _/_, _%_}
+use Prim.Native.Nat.{ℕ, _/_, _%_}
 use mathlib.Core.Bool.{Bool, not, _&&_}
 use mathlib.Core.List.{List}
 use mathlib.Core.Option.{Option}

@@ -40,7 +40,7 @@ use Rattle.smtlib.specs.Commands.{Declaration, declareFun, commandOf}
 use Rattle.smtlib.specs.Settings.{environment, zeros}
 use Rattle.smtlib.specs.Scripts.{isDeclared, formula, gather, setsLogic, scriptIn}
 use Rattle.smtlib.proofs.NameLaws.{no-function, stands-here, stands-later}
-use Rattle.smtlib.proofs.TermLaws.{call1, call2, call3, value-symbol, value-hexadecimal, value-constant, value-truths1, value-vectors1, value-left, value-right, value-relation, value-vectors2, value-order, value-choice}
+use Rattle.smtlib.proofs.TermLaws.{call1, call2, value-symbol, value-hexadecimal, value-constant, value-truths1, value-vectors1, value-left, value-right, value-relation, value-vectors2, value-order, value-choice}
 use Rattle.smtlib.proofs.CommandLaws.{declare-read, assert-read, check-read, exit-read, vector-read, begins, declares-next, asserts-next, asks-next, exits, declared-append, fresh-name}
 use Rattle.wording.specs.Sixteen.{symbolText}
 use Rattle.wording.specs.Script.{claims}

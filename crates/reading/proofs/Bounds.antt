@@ -7,9 +7,9 @@ use native.Mathlib.Decide.{decLt}
 use native.Mathlib.Omega.{arith}
 use lib.ListN.{length}
 use Rattle.layout.specs.Limits.{blockBytes, mostBlocks, mostNodes, mostVariables}
-use Rattle.layout.specs.Parts.{nodeCount, goalAt, variableCount}
+use Rattle.layout.specs.Parts.{nodeCount, variableCount}
 use Rattle.refusals.specs.declared.Refusal.{Refusal}
-use Rattle.refusals.specs.Rows.{row, _then_, eachOf}
+use Rattle.refusals.specs.Rows.{row, _then_}
 use Rattle.refusals.proofs.BoundLaws.{Bounded, not-applied, bounded-row, bounded-then, bounded-each, bounded-answer}
 use Rattle.reading.specs.Rows.{Row1, long, Row2, Row3, Row4, no-node, nodes, variables, Row5, Row6, Row7, Row8, GoalSubtree, GoalType, sheetRows}
 use Rattle.reading.specs.Cascade.{refusalOf}

@@ -15,7 +15,6 @@ use Rattle.meaning.specs.declared.Sort.{Sort}
 use Rattle.meaning.specs.declared.Sort.the-variants.{Truth as truth}
 use Rattle.kinds.specs.declared.Record.{Record}
 use Rattle.kinds.specs.declared.Shape.{Shape}
-use Rattle.kinds.specs.declared.Shape.the-variants.{Wrong, Bare, Valued, Named, One, Two, Three}
 use Rattle.layout.specs.Limits.{nodeBytes, spareStart, nodePlace}
 use Rattle.layout.specs.Starts.{fieldsOf, AllZero, UnusedZero, shapeAt, sortAt, operandsOf, sortsOf, startAt, Sorted, Typed}
 use Rattle.layout.specs.Parts.{nodeCount, goalAt, variableCount, recordIn, table}

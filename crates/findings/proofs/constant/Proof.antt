@@ -1,5 +1,5 @@
 -- `constant` meets its contract: what `signed` and `range_of` ensure, one after the other. Assumes nothing.
-use mathlib.Core.Path.{_≡_, _∙_, ap₂}
+use mathlib.Core.Path.{_∙_, ap₂}
 use mir.Facts.{toZ-ofZ}
 use borrow.Author.Needs.{needs}
 use Rattle.numbers.specs.Ranges.{_⋯_}

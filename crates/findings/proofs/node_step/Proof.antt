@@ -1,5 +1,5 @@
 -- `node_step` meets its contract: in each arm the answer at its shape. Assumes nothing.
-use mathlib.Core.Path.{_≡_, sym, ap, ap₂, _∙_}
+use mathlib.Core.Path.{sym, ap, ap₂, _∙_}
 use native.Mathlib.Omega.{arith}
 use borrow.Author.Needs.{needs}
 use Rattle.numbers.specs.declared.Range.{Range}
@@ -8,7 +8,7 @@ use Rattle.layout.proofs.PartLaws.{variable-is}
 use Rattle.kinds.specs.declared.Record.{Record}
 use Rattle.findings.specs.declared.Step.{Step}
 use Rattle.findings.specs.Findings.{noRange, resultOf, domainAt}
-use Rattle.findings.specs.Steps.{fitted, oneStep, twoStep, threeStep}
+use Rattle.findings.specs.Steps.{fitted, oneStep, twoStep}
 use Rattle.findings.specs.Packed.{findingsIn}
 use Rattle.findings.proofs.FindingLaws.{no-range-fits, domain-fits, step-wrong, step-bare, step-valued, step-named, step-one, step-two, step-three}
 use Rattle.findings.proofs.node_step.Statement.{statement}
