@@ -1,7 +1,7 @@
 -- No second answer and no second room fits the statement of a call. Assumes nothing.
 use mathlib.Core.Path.{_≡_, refl, sym, ap₂, _∙_}
 use mathlib.Core.Bool.{Bool, true, false}
-use mathlib.Core.List.{List, _++_}
+use mathlib.Core.List.{List, [], _++_}
 use Prim.Native.Nat.{ℕ}
 use native.Mathlib.Omega.{arith}
 use lib.IntN.{ℤ}
@@ -56,4 +56,5 @@ one-between = record {
   lowest = λ domains v old x y. lowest-once;
   advance = λ domains v old x y r t. advance-once;
   writes = λ text before x y at m n h g. (h .place ∙ sym (g .place), h .room ∙ sym (g .room));
+  lines = λ n x y h g. h .of [] ∙ sym (g .of []);
 }

@@ -14,11 +14,13 @@ use Rattle.refusals.specs.declared.Refusal.{Refusal}
 use Rattle.refusals.specs.declared.Reading.{Reading}
 use Rattle.refusals.specs.Said.{saidOf}
 use Rattle.room.specs.Room.{Wrote}
+use Rattle.lines.specs.Lines.{LinesSize}
 
--- the steps of the reading, a name's part, the odometer, and what writes into room
+-- the steps of the reading, a name's part, the odometer, what writes into room, and how long the lines of variables are
 pub record OneBetween : Type 0 where
   pub step : (said : Option Refusal) (r t : Reading) → saidOf r ≡ said → saidOf t ≡ said → r ≡ t
   pub part : (whole p q : RefT (List ℕ)) (a n : ℕ) → PartAt whole p a n → PartAt whole q a n → SamePart p q
   pub lowest : (domains : ℕ → Range) (v : ℕ) (old x y : List ℤ) → Lowered domains v old x → Lowered domains v old y → x ≡ y
   pub advance : (domains : ℕ → Range) (v : ℕ) (old x y : List ℤ) (r t : Bool) → Advanced domains v old r x → Advanced domains v old t y → (r ≡ t) × (x ≡ y)
   pub writes : (text before x y : List ℕ) (at m n : ℕ) → Wrote text before x at m → Wrote text before y at n → (m ≡ n) × (x ≡ y)
+  pub lines : (n x y : ℕ) → LinesSize n x → LinesSize n y → x ≡ y
