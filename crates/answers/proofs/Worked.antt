@@ -29,7 +29,8 @@ use Rattle.nodes.specs.Nodes.{typed, nodeRefusal, nodes}
 use Rattle.reading.specs.Cascade.{refusalOf}
 use Rattle.wording.specs.Sixteen.{hexDigit, hexText, literal, symbolText}
 use Rattle.wording.specs.Script.{script}
-use Rattle.phrases.specs.Phrases.{decimalIn, decimal, signed, numbersLine, refusalLine, nameValue, nameValues}
+use Rattle.numbers.specs.Decimal.{decimalIn, decimal, signed}
+use Rattle.phrases.specs.Phrases.{numbersLine, refusalLine, nameValue, nameValues}
 use Rattle.answers.specs.declared.Request.{Request}
 use Rattle.answers.specs.declared.Request.the-variants.{Read, Script, Check, Tally}
 use Rattle.answers.specs.Answers.{answered, checkLine, answerText}

@@ -1,3 +1,2 @@
-pub mod Form
-pub mod Binary
+pub mod Readable
 pub mod Width

@@ -1,3 +1,4 @@
 pub mod Two
 pub mod Bytes
 pub mod Ranges
+pub mod Decimal

@@ -11,7 +11,7 @@ use lib.ListN.{length, take, length-append}
 use mir.Syntax.{w64}
 use mir.Val.{Fits}
 use Rattle.io.specs.Digits.{glyph, digits, Fewest}
-use Rattle.phrases.specs.Phrases.{decimalIn, decimal}
+use Rattle.numbers.specs.Decimal.{decimalIn, decimal}
 use Rattle.phrases.specs.Sizes.{longestDecimal}
 
 -- ---- the first digit alone, and one digit more

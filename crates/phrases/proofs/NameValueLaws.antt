@@ -21,7 +21,8 @@ use Rattle.reading.specs.Cascade.{refusalOf}
 use Rattle.reading.proofs.RuleLaws.{accepted-counted, accepted-kept}
 use Rattle.room.specs.Room.{Wrote}
 use Rattle.room.proofs.RoomLaws.{wrote-as, wrote-no-texts, chain}
-use Rattle.phrases.specs.Phrases.{signed, nameValue, nameValues}
+use Rattle.numbers.specs.Decimal.{signed}
+use Rattle.phrases.specs.Phrases.{nameValue, nameValues}
 use Rattle.phrases.specs.Pieces.{Named, nameValueAt, nameValuesAt, failsLine}
 use Rattle.phrases.proofs.SignedLaws.{kept-is}
 

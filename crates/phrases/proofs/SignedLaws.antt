@@ -15,7 +15,7 @@ use Rattle.lists.specs.Ascii.{ascii}
 use Rattle.numbers.proofs.Zed.{zed, side, pos-ud, negsuc-ud, sub-ud, abs-ud}
 use Rattle.numbers.proofs.OrderTests.{ltZ-true, ltZ-false}
 use Rattle.numbers.proofs.Fit.{narrow-ud, narrow-of-i16, i16-fits, minus-fits}
-use Rattle.phrases.specs.Phrases.{decimal, signed}
+use Rattle.numbers.specs.Decimal.{decimal, signed}
 use Rattle.phrases.specs.Sizes.{longestSigned}
 use Rattle.phrases.proofs.DecimalLaws.{decimal-5}
 

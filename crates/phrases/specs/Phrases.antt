@@ -1,26 +1,11 @@
--- The phrases of an answer, in bytes: numbers in decimal, a refusal's line, and variables with their values.
-use Prim.Native.Nat.{ℕ, zero, suc, _+_, _/_, _%_}
-use mathlib.Core.Bool.{true, false}
+-- The phrases of an answer, in bytes: a refusal's line, and variables with their values.
+use Prim.Native.Nat.{ℕ}
 use mathlib.Core.List.{List, [], _∷_, _++_}
-use lib.Dec.{ltb}
-use lib.IntN.{ℤ, pos, negsuc}
+use lib.IntN.{ℤ}
 use Rattle.lists.specs.Ascii.{ascii}
+use Rattle.numbers.specs.Decimal.{decimal, signed}
 use Rattle.refusals.specs.declared.Refusal.{Refusal}
 use Rattle.meaning.specs.Rule.{Variable}
-
--- n in decimal, in at most k digits
-unfoldable pub decimalIn : ℕ → ℕ → List ℕ
-decimalIn zero n = []
-decimalIn (suc k) n = elim (ltb n 10) [ true ↦ (48 + n) ∷ [] | false ↦ decimalIn k (n / 10) ++ ((48 + n % 10) ∷ []) ]
-
--- n in decimal, no zero in front: n + 1 digits are always enough
-unfoldable pub decimal : ℕ → List ℕ
-decimal n = decimalIn (suc n) n
-
--- an integer in decimal
-unfoldable pub signed : ℤ → List ℕ
-signed (pos n) = decimal n
-signed (negsuc n) = ascii "-" ++ decimal (suc n)
 
 -- a line of two numbers, each behind its word
 unfoldable pub numbersLine : List ℕ → ℕ → List ℕ → ℕ → List ℕ

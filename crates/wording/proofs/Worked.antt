@@ -1,12 +1,14 @@
--- Sheet A's script is document 01's 234 bytes; the text of every kind. Each fact is computed. Assumes nothing.
+-- Sheet A's script is document 01's 234 bytes, and what it is with models; the text of every kind. Each fact is computed. Assumes nothing.
 use Prim.Native.Nat.{ℕ}
 use Prim.Native.String.{String}
 use mathlib.Core.Path.{_≡_, refl, ap}
+use mathlib.Core.Bool.{true, false}
 use mathlib.Core.List.{List, [], _∷_, _++_, map}
 use lib.IntN.{pos, negsuc}
 use lib.ListN.{length}
 use Rattle.lists.specs.Ascii.{ascii}
 use Rattle.numbers.specs.Two.{enc}
+use Rattle.numbers.specs.Decimal.{decimalIn, decimal}
 use Rattle.meaning.specs.declared.Sort.{Sort}
 use Rattle.meaning.specs.declared.Sort.the-variants.{Truth, Integer}
 use Rattle.meaning.specs.Tree.{Tree, tru, fls, neg, conj, disj, implies, iff, equal, less, atMost, const, var, minus, sum, difference, product, ite}
@@ -14,6 +16,7 @@ use Rattle.layout.specs.Fold.{ofTree}
 use Rattle.layout.proofs.Example.{ruleA}
 use Rattle.wording.specs.Text.{text}
 use Rattle.wording.specs.Sixteen.{hexDigit, hexText, literal, symbolText}
+use Rattle.wording.specs.Form.{sixteen}
 use Rattle.wording.specs.Script.{script}
 
 -- ---- document 01's column "text": each kind, with numbers and variables at their edges
@@ -68,21 +71,29 @@ pub least : text literal symbolText (const (negsuc 32767)) ≡ ascii "#x8000"
 unfolding ofTree literal hexText hexDigit enc
 least = refl
 
--- ---- sheet A
-abbrev pub bytesA : List ℕ
-bytesA =
+-- ---- sheet A, without models and with them
+abbrev middleA : List ℕ
+middleA =
     ascii "(set-logic QF_UFBV)\n"
     ++ (ascii "(declare-fun v0 () (_ BitVec 16))\n"
     ++ (ascii "(declare-fun v1 () (_ BitVec 16))\n"
     ++ (ascii "(assert (and (bvsle #x0000 v0) (bvsle v0 #x0001)))\n"
     ++ (ascii "(assert (and (bvsle #x0000 v1) (bvsle v1 #x0001)))\n"
     ++ (ascii "(assert (not (= v0 v1)))\n"
-    ++ (ascii "(check-sat)\n"
-    ++ ascii "(exit)\n"))))))
+    ++ ascii "(check-sat)\n")))))
 
-pub scriptA : script ruleA ≡ bytesA
-unfolding script ofTree symbolText literal hexText hexDigit enc
+pub scriptA : script (sixteen false) ruleA ≡ middleA ++ ascii "(exit)\n"
+unfolding script decimal decimalIn ofTree symbolText literal hexText hexDigit enc
 scriptA = refl
 
-pub lengthA : length (script ruleA) ≡ 234
+pub lengthA : length (script (sixteen false) ruleA) ≡ 234
 lengthA = ap length scriptA
+
+pub askA : script (sixteen true) ruleA ≡ ascii "(set-option :produce-models true)\n" ++ (middleA ++ ascii "(get-value (v0 v1))\n(exit)\n")
+unfolding script decimal decimalIn ofTree symbolText literal hexText hexDigit enc
+askA = refl
+
+-- ---- no variables: no values are asked for
+pub ask-none : script (sixteen true) (record { variables = []; goal = fls }) ≡ ascii "(set-option :produce-models true)\n(set-logic QF_UFBV)\n(assert (not false))\n(check-sat)\n(exit)\n"
+unfolding script ofTree
+ask-none = refl

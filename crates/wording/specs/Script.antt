@@ -1,15 +1,16 @@
--- The script of a rule (document 01, "The script"): a list of lines, each ended by one line feed.
+-- The script of a rule (document 01, "The script"; document 02, item 1), in any form: a list of lines, each ended by one line feed.
 use Prim.Native.Nat.{ℕ, suc}
+use mathlib.Core.Bool.{true, false}
 use mathlib.Core.List.{List, [], _∷_, _++_, map}
-use lib.IntN.{ℤ}
 use Rattle.lists.specs.Ascii.{ascii}
 use Rattle.lists.specs.Joined.{joined}
 use Rattle.numbers.specs.declared.Range.{Range}
+use Rattle.numbers.specs.Decimal.{decimal}
 use Rattle.meaning.specs.declared.Sort.the-variants.{Truth}
 use Rattle.meaning.specs.Tree.{Tree, neg, conj, atMost, const, var}
 use Rattle.meaning.specs.Rule.{Variable, Rule}
 use Rattle.wording.specs.Text.{text}
-use Rattle.wording.specs.Sixteen.{literal, symbolText, widthText}
+use Rattle.wording.specs.Form.{Form}
 
 -- min ≤ v and v ≤ max, for variable i
 abbrev pub inDomain : ℕ → Range → Tree Truth
@@ -20,27 +21,45 @@ abbrev pub claims : ℕ → List Variable → Tree Truth → List (Tree Truth)
 claims i [] goal = neg goal ∷ []
 claims i (v ∷ vs) goal = inDomain i (v .domain) ∷ claims (suc i) vs goal
 
--- the lines, given the texts of constants, of variables and of the width
-module _ (constant : ℤ → List ℕ) (symbol : ℕ → List ℕ) (width : List ℕ) where
+-- the lines, in a form
+module _ (f : Form) where
   abbrev pub declaration : ℕ → List ℕ
-  declaration i = ascii "(declare-fun " ++ (symbol i ++ (ascii " () (_ BitVec " ++ (width ++ ascii "))")))
+  declaration i = ascii "(declare-fun " ++ (f .symbol i ++ (ascii " () (_ BitVec " ++ (decimal (f .width) ++ ascii "))")))
 
   abbrev pub declarations : ℕ → List Variable → List (List ℕ)
   declarations i [] = []
   declarations i (v ∷ vs) = declaration i ∷ declarations (suc i) vs
 
   abbrev pub assertion : Tree Truth → List ℕ
-  assertion t = ascii "(assert " ++ (text constant symbol t ++ ascii ")")
+  assertion t = ascii "(assert " ++ (text (f .constant) (f .symbol) t ++ ascii ")")
+
+  -- symbols from number i on, a blank before each
+  abbrev pub furtherSymbols : ℕ → List Variable → List ℕ
+  furtherSymbols i [] = []
+  furtherSymbols i (v ∷ vs) = ascii " " ++ (f .symbol i ++ furtherSymbols (suc i) vs)
+
+  -- the values of all variables are asked for, where there are any
+  abbrev pub valuesAsked : List Variable → List (List ℕ)
+  valuesAsked [] = []
+  valuesAsked (v ∷ vs) = (ascii "(get-value (" ++ (f .symbol 0 ++ (furtherSymbols 1 vs ++ ascii "))"))) ∷ []
+
+  -- lines that only a script with models has
+  abbrev pub withModels : List (List ℕ) → List (List ℕ)
+  withModels ls = elim (f .models) [ true ↦ ls | false ↦ [] ]
 
   abbrev pub linesOf : Rule → List (List ℕ)
   linesOf r =
-      ascii "(set-logic QF_UFBV)"
-      ∷ (declarations 0 (r .variables) ++ (map assertion (claims 0 (r .variables) (r .goal)) ++ (ascii "(check-sat)" ∷ ascii "(exit)" ∷ [])))
+      withModels (ascii "(set-option :produce-models true)" ∷ [])
+      ++ (ascii "(set-logic QF_UFBV)"
+      ∷ (declarations 0 (r .variables)
+      ++ (map assertion (claims 0 (r .variables) (r .goal))
+      ++ (ascii "(check-sat)"
+      ∷ (withModels (valuesAsked (r .variables))
+      ++ (ascii "(exit)" ∷ []))))))
 
 -- a line, and a line feed behind it
 abbrev pub ended : List ℕ → List ℕ
 ended l = l ++ ascii "\n"
 
--- the script, at 16 bits
-unfoldable pub script : Rule → List ℕ
-script r = joined ended (linesOf literal symbolText widthText r)
+unfoldable pub script : Form → Rule → List ℕ
+script f r = joined ended (linesOf f r)

@@ -21,7 +21,3 @@ literal z = hexText (enc 16 z)
 -- a variable, its number below 100
 unfoldable pub symbolText : ℕ → List ℕ
 symbolText i = ascii "v" ++ cond (ltb i 10) ((48 + i) ∷ []) ((48 + i / 10 % 10) ∷ (48 + i % 10) ∷ [])
-
--- the width
-abbrev pub widthText : List ℕ
-widthText = ascii "16"

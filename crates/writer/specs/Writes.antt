@@ -1,4 +1,4 @@
--- What `write_script` answers and what it leaves in the room (document 01, "The script" and refusal 9).
+-- What `write_script` answers and what it leaves in the room, in any form (document 01, "The script" and refusal 9; document 02, item 1).
 use Prim.Native.Nat.{ℕ}
 use mathlib.Core.Path.{_≡_}
 use mathlib.Core.List.{List}
@@ -10,16 +10,17 @@ use Rattle.refusals.specs.declared.Refusal.{Refusal}
 use Rattle.layout.specs.Parts.{ruleIn}
 use Rattle.refusals.specs.Said.{unless}
 use Rattle.reading.specs.Cascade.{refusalOf}
+use Rattle.wording.specs.Form.{Form}
 use Rattle.wording.specs.Script.{script}
 use Rattle.writer.specs.declared.Written.{Written}
 use Rattle.writer.specs.declared.Written.the-variants.{Script, Refused}
 use Rattle.room.specs.Room.{over}
 
 -- the sheet's own refusal, then 9 at the script's bytes: a room of fewer bytes
-unfoldable pub scriptRefusal : List ℕ → ℕ → Option Refusal
-scriptRefusal s room = refusalOf s otherwise unless (leb (length (script (ruleIn s))) room) 9 (length (script (ruleIn s)))
+unfoldable pub scriptRefusal : Form → List ℕ → ℕ → Option Refusal
+scriptRefusal f s room = refusalOf s otherwise unless (leb (length (script f (ruleIn s))) room) 9 (length (script f (ruleIn s)))
 
--- a room of so many bytes is enough for the script of every accepted sheet
+-- a room of so many bytes is enough for both scripts of every accepted sheet
 abbrev pub enoughRoom : ℕ
 enoughRoom = 4096
 
@@ -37,6 +38,6 @@ abbrev pub scriptRoom : Option Refusal → List ℕ → List ℕ → List ℕ
 scriptRoom none t room = over t room
 scriptRoom (some r) t room = room
 
-pub record Writes (s before : List ℕ) (r : Written) (after : List ℕ) : Type 0 where
-  pub answer : writtenSaid r ≡ scriptVerdict (scriptRefusal s (length before)) (script (ruleIn s))
-  pub room : after ≡ scriptRoom (scriptRefusal s (length before)) (script (ruleIn s)) before
+pub record Writes (f : Form) (s before : List ℕ) (r : Written) (after : List ℕ) : Type 0 where
+  pub answer : writtenSaid r ≡ scriptVerdict (scriptRefusal f s (length before)) (script f (ruleIn s))
+  pub room : after ≡ scriptRoom (scriptRefusal f s (length before)) (script f (ruleIn s)) before
