@@ -94,10 +94,10 @@ commands-read : scriptIn sexps ≡ some script
 unfolding sameBytes setsLogic theoryName function functions otherNames environment
 commands-read =
     begins _ _ refl
-    ∙ declares-next [] [] false _ _ (declare-read (ascii "x") _ (vector-read (4 ∷ []) (lit≤ tt))) (fresh-name [] (ascii "x") refl refl refl)
-    ∙ asserts-next (script .declares) [] false _ _ (assert-read claim) (sort-formula (script .declares) claim (0 ∷ []) (lit< tt, tt) (ap sortOf (claim-value 0)))
-    ∙ asks-next (script .declares) (claim ∷ []) false _ _ check-read
-    ∙ exits (script .declares) (claim ∷ []) _ exit-read
+    ∙ declares-next false [] [] false false _ _ (declare-read (ascii "x") _ (vector-read (4 ∷ []) (lit≤ tt))) (fresh-name [] (ascii "x") refl refl refl)
+    ∙ asserts-next false (script .declares) [] false false _ _ (assert-read claim) (sort-formula (script .declares) claim (0 ∷ []) (lit< tt, tt) (ap sortOf (claim-value 0)))
+    ∙ asks-next false (script .declares) (claim ∷ []) false false _ _ check-read
+    ∙ exits false (script .declares) (claim ∷ []) true _ exit-read
 
 text-script : scriptOf text ≡ some script
 unfolding scriptOf
