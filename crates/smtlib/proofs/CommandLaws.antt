@@ -1,5 +1,5 @@
 -- A script, command by command. Assumes nothing.
-use mathlib.Core.Path.{_≡_, refl, _∙_}
+use mathlib.Core.Path.{_≡_, refl}
 use mathlib.Core.Bool.{Bool, true, false, _||_}
 use mathlib.Core.List.{List, [], _∷_, _++_}
 use mathlib.Core.Option.{some}
@@ -14,7 +14,7 @@ use Rattle.smtlib.specs.Values.{Sort, bool, bitVec}
 use Rattle.smtlib.specs.Theory.{theoryName}
 use Rattle.smtlib.specs.Terms.{numberOf}
 use Rattle.smtlib.specs.Commands.{Declaration, produceModels, declareFun, assertion, checkSat, exit, getValue, ofWidth, sortIn, commands, commandOf}
-use Rattle.smtlib.specs.Scripts.{solverName, isDeclared, declarable, formula, wellSorted, gather, setsLogic, start, scriptIn}
+use Rattle.smtlib.specs.Scripts.{solverName, isDeclared, declarable, termSort, formula, wellSorted, gather, setsLogic, start, scriptIn}
 
 -- ---- each command, from its s-expression
 
@@ -82,9 +82,6 @@ pub models-on : (s : Sexp) → scriptIn (cons modelsOption s) ≡ start true s
 unfolding sameBytes setsLogic scriptIn
 models-on s = option-next false modelsOption s refl option-read
 
-pub models-begins : (c s : Sexp) → setsLogic c ≡ true → scriptIn (cons modelsOption (cons c s)) ≡ gather true [] [] false false s
-models-begins c s e = models-on (cons c s) ∙ logic-next true c s e
-
 module _ (models : Bool) (ds : List Declaration) (es : List Sexp) (asked satMode : Bool) (c s : Sexp) where
   pub declares-next : {d : Declaration} → commandOf c ≡ declareFun d → declarable ds (d .name) ≡ true → gather models ds es asked satMode (cons c s) ≡ gather models (ds ++ (d ∷ [])) es asked false s
   unfolding gather
@@ -107,6 +104,11 @@ values-next ds es asked c s e f = rw (e, gather, f)
 pub exits : (models : Bool) (ds : List Declaration) (es : List Sexp) (satMode : Bool) (c : Sexp) → commandOf c ≡ exit → gather models ds es true satMode (cons c nil) ≡ some (record { declares = ds; asserts = es })
 unfolding gather
 exits models ds es satMode c e = rw (e, gather)
+
+-- ---- lists of terms, one by one
+pub sorted-next : (ds : List Declaration) (e : Sexp) (es : List Sexp) {k : Sort} → termSort ds e ≡ some k → wellSorted ds es ≡ true → wellSorted ds (e ∷ es) ≡ true
+unfolding wellSorted
+sorted-next ds e es h f = rw (h, f)
 
 -- ---- declarable names
 

@@ -65,6 +65,7 @@ option k v = elim (named "produce-models" (keywordIn k)) [ true ↦ known produc
 abbrev pub declaring : Sexp → Sexp → Sexp → Command
 declaring n p s = exactly0 unknown (known declareFun (andThen (symbolIn n) (λ m. andThen (sortIn s) (λ t. some (record { name = m; sort = t }))))) (items p)
 
+-- a list of at least one term
 abbrev pub valued : Sexp → Command
 valued (atom a) = unknown
 valued nil = unknown

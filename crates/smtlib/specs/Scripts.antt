@@ -60,10 +60,9 @@ wellSorted ds (e ∷ es) = hasSort (termSort ds e) && wellSorted ds es
 
 -- SMT-LIB asks for less; here a script is one question: a check-sat stands behind every assertion, and exit is the last command
 
--- the commands behind set-logic, with what is declared and asserted so far
--- models: :produce-models is true; asked: check-sat stands behind all that is asserted; satMode: nothing but get-value stands behind check-sat
--- sat mode is that of figure 4.1, but for the solver's answer, which a text doesn't show
--- a declaration ends it: by the figure it leads back to assert mode, though z3 and cvc5 give values there too
+-- the commands behind set-logic, with what is declared and asserted so far; models: :produce-models is true; asked: check-sat stands behind all that is asserted
+-- satMode: nothing but get-value stands behind check-sat, whatever its answer, which is no part of the text
+-- a declaration leads back to assert mode (figure 4.1), though z3 and cvc5 give values there too
 unfoldable pub gather : Bool → List Declaration → List Sexp → Bool → Bool → Sexp → Option Script
 gather models ds es asked satMode (atom a) = none
 gather models ds es asked satMode nil = none
@@ -81,7 +80,7 @@ gather models ds es asked satMode (cons c s) = elim (commandOf c) [
 unfoldable pub setsLogic : Sexp → Bool
 setsLogic c = exactly2 false (λ w l. named "set-logic" (reservedIn w) && (named "QF_BV" (symbolIn l) || named "QF_UFBV" (symbolIn l))) (items c)
 
--- the commands up to set-logic (start mode, where alone :produce-models can be set): options, of which the last one counts
+-- start mode, in which alone :produce-models can be set (section 4.1.7): options, of which the last one counts, up to set-logic
 unfoldable pub start : Bool → Sexp → Option Script
 start models (atom a) = none
 start models nil = none
