@@ -48,7 +48,8 @@ use Rattle.wording.specs.Binary.{inBits}
 use Rattle.wording.specs.Script.{script}
 use Rattle.forms.specs.Width.{WidthHolds}
 use Rattle.forms.proofs.Injective.{script-injective}
-use Rattle.forms.proofs.Forms.{form-declares, form16}
+use Rattle.forms.proofs.Forms.{form-declares}
+use Rattle.forms.proofs.Sixteen.{form16}
 use Rattle.forms.proofs.Bits.{form-bits}
 use Rattle.forms.proofs.MeansMatch.{one-case}
 use Rattle.forms.proofs.MeansScript.{form-means, held16}
