@@ -1,0 +1,2 @@
+pub mod HashScan
+pub mod DigitLaws
