@@ -1,2 +1,3 @@
 pub mod HashScan
 pub mod DigitLaws
+pub mod NumberLaws

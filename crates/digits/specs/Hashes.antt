@@ -1,42 +1,34 @@
--- The digits of a variable stand behind the hash of its number; hashes stand nowhere else in a reply that spells a setting.
-use Prim.Native.Nat.{ℕ, suc, zero, _+_, _<_, _≤_}
-use mathlib.Core.Path.{_≡_}
+-- Where a variable's digits stand in a reply that spells a case (document 02, item 1): hashes stand only before values, so behind the hash of its number, and behind the base.
+use Prim.Native.Nat.{ℕ, zero, suc, _+_}
 use mathlib.Core.Bool.{true, false, cond}
 use mathlib.Core.List.{List, [], _∷_, map}
-use denote.Ref.{RefT}
 use lib.Dec.{eqb}
-use lib.ListN.{length, getD}
-use Rattle.lists.specs.Part.{PartAt}
+use lib.ListN.{getD, take, drop}
 use Rattle.smtlib.specs.Tokens.{digitValue}
+use Rattle.smtlib.specs.Terms.{numberOf}
 use Rattle.replies.specs.Replies.{hexDigits, binaryDigits}
-use Rattle.replies.specs.Says.{Numeral, hexadecimal, binary, SpellsSetting}
 
 -- the place behind hash number i, k bytes being passed; behind the end where there are fewer
 unfoldable pub placeBehind : ℕ → ℕ → List ℕ → ℕ
 placeBehind i k [] = k
 placeBehind i k (c ∷ s) = elim (eqb c 35) [ true ↦ elim i [ zero ↦ suc k | suc j ↦ placeBehind j (suc k) s ] | false ↦ placeBehind i (suc k) s ]
 
-abbrev pub digitsIn : Numeral → List ℕ
-digitsIn (hexadecimal ds) = ds
-digitsIn (binary ds) = ds
+-- at the place p of an `x` or a `b`: how many digits stand behind it, to which base, and their number
+abbrev pub sizeAt : List ℕ → ℕ → ℕ
+sizeAt reply p = cond (eqb (getD reply p 0) 120) hexDigits binaryDigits
 
--- the numeral of variable i
-abbrev pub numeralAt : {v : ℕ} {s setting : List ℕ} → SpellsSetting v s setting → ℕ → Numeral
-numeralAt c i = getD (c .numerals) i (hexadecimal [])
+abbrev pub baseAt : List ℕ → ℕ → ℕ
+baseAt reply p = cond (eqb (getD reply p 0) 120) 16 2
 
--- variable i's digits alone, as the very part of the reply; an empty part unless a setting is spelled and the variable listed
-pub data DigitsPart (v i : ℕ) (reply part : RefT (List ℕ)) : Type 0 where
-  given :
-      (setting : List ℕ) (c : SpellsSetting v (reply .now) setting) → i < v →
-      PartAt reply part (placeBehind i 0 (reply .now) + 1) (length (digitsIn (numeralAt c i))) → map digitValue (part .now) ≡ digitsIn (numeralAt c i) →
-      DigitsPart v i reply part
-  withheld : ((setting : List ℕ) → SpellsSetting v (reply .now) setting → i < v → ⊥) → PartAt reply part 0 0 → DigitsPart v i reply part
+abbrev pub numberAt : List ℕ → ℕ → ℕ
+numberAt reply p = numberOf (baseAt reply p) (map digitValue (take (sizeAt reply p) (drop (p + 1) reply)))
 
--- how many digits stand behind a base
-abbrev pub sizeBy : ℕ → ℕ
-sizeBy base = cond (eqb base 120) hexDigits binaryDigits
+-- variable i's digits: where the first one stands, how many they are, and to which base
+abbrev pub digitsPlace : ℕ → List ℕ → ℕ
+digitsPlace i reply = placeBehind i 0 reply + 1
 
--- at place p stands a base, and its digits behind it
-pub record Based (s : List ℕ) (p : ℕ) : Type 0 where
-  pub inside : p < length s
-  pub behind : p + 1 + sizeBy (getD s p 0) ≤ length s
+abbrev pub digitsSize : ℕ → List ℕ → ℕ
+digitsSize i reply = sizeAt reply (placeBehind i 0 reply)
+
+abbrev pub digitsBase : ℕ → List ℕ → ℕ
+digitsBase i reply = baseAt reply (placeBehind i 0 reply)

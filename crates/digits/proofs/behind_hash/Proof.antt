@@ -1,30 +1,26 @@
--- `digits::behind_hash` meets its contract. Invariant: the place is the one behind the hash that is left to be found. Assumes nothing.
-use Prim.Native.Nat.{_-_}
-use mathlib.Core.Path.{sym, _∙_}
+-- `digits::behind_hash` meets its contract. Invariant: k hashes are behind place p. Assumes nothing.
+use Prim.Native.Nat.{_-_, _≤_}
+use mathlib.Core.Path.{_≡_}
+use native.Mathlib.Omega.{arith}
 use borrow.Author.Needs.{needs}
-use lib.ListN.{length}
-use Rattle.digits.proofs.HashScan.{Passing, passing-begin, passing-here, passing-turn, passing-end}
+use Rattle.digits.proofs.HashScan.{Passing, passing-begin, passing-place, passing-turn}
 use Rattle.digits.proofs.behind_hash.Statement.{statement}
 use Rattle.digits.proofs.behind_hash.Tie as tie
 
 abbrev Inv-loop : tie.InvT-loop
-Inv-loop reply i left₀ k₀ left k = Passing reply i left k
+Inv-loop reply i p₀ k₀ p k = (k ≤ i) × Passing reply k p
 
 abbrev μ-loop : tie.MeasureT-loop
-μ-loop reply i left₀ k₀ left k = length reply - k
+μ-loop reply i p₀ k₀ p k = i - k
+
+loop-again : tie.Need-loop-again Inv-loop μ-loop
+loop-again c = (search needs, passing-turn (c .before .before .loop .inv .1) (c .behind .ensures))
 
 returns : tie.Need-returns Inv-loop μ-loop
 returns c =
-    let l = c .before .before .before in
-    passing-here (l .before .loop .inv) (l .loop-test .taken) (sym (c .before .is-here .ensures) ∙ c .if1 .taken)
-
-loop-again : tie.Need-loop-again Inv-loop μ-loop
-loop-again c =
-    let l = c .before .before .before .before .before in
-    passing-turn (l .before .loop .inv) (l .loop-test .taken) (sym (c .before .before .before .is-here .ensures) ∙ c .before .before .if1 .left) (c .left-behind .ensures)
-
-returns-2 : tie.Need-returns-2 Inv-loop μ-loop
-returns-2 c = passing-end (c .before .loop .inv) (c .loop-test .left)
+    let l = c .before .before in
+    let e : l .loop .k ≡ l .before .before .args .i = omega arith in
+    rw e at (passing-place (l .loop .inv .1) (c .behind2 .ensures))
 
 pub behind-hash-spec : {M : Type 1} → statement M
 behind-hash-spec =
@@ -32,14 +28,10 @@ behind-hash-spec =
     (tie.spec
     Inv-loop
     μ-loop
-    (λ c. passing-begin _ _)
-    (λ c. search needs)
-    (λ c κs. tt)
-    (λ c. search needs)
-    returns
-    (λ c. search needs)
-    (λ c κs. tt)
+    (λ c. (search needs, passing-begin _))
+    (λ c κs. c .before .loop .inv .1 .inside)
     (λ c. search needs)
     (λ c. search needs)
     loop-again
-    returns-2)
+    (λ c κs. c .before .loop .inv .1 .inside)
+    returns)
