@@ -1,0 +1,10 @@
+pub mod ByteLaws
+pub mod Left
+pub mod LeftLaws
+pub mod DefiniteLaws
+pub mod ReachLaws
+pub mod SaysLaws
+pub mod HashLaws
+pub mod OnceLaws
+pub mod SatLaws
+pub mod Vectors
