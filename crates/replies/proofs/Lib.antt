@@ -7,4 +7,7 @@ pub mod SaysLaws
 pub mod HashLaws
 pub mod OnceLaws
 pub mod SatLaws
+pub mod NumberLaws
+pub mod Unique
+pub mod Spelled
 pub mod Vectors
