@@ -1,7 +1,6 @@
 pub mod ByteLaws
-pub mod Left
-pub mod LeftLaws
 pub mod DefiniteLaws
+pub mod PassLaws
 pub mod ReachLaws
 pub mod SaysLaws
 pub mod HashLaws
