@@ -1,5 +1,4 @@
 pub mod BeginLaws
-pub mod Machines
 pub mod MachineLaws
-pub mod Deriving
+pub mod Definite
 pub mod PatternLaws

@@ -8,10 +8,18 @@ use mathlib.Core.List.{List, [], _∷_, _++_}
 use native.Mathlib.Nat.{add-zero, zero-add, add-suc, suc-add}
 use native.Mathlib.Omega.{arith}
 use Rattle.grammar.specs.Begins.{Begins, Leaves, at-byte, too-short}
-use Rattle.grammar.proofs.Machines.{stop, Reads}
+use Rattle.grammar.specs.Stops.{stop}
 use Rattle.grammar.proofs.BeginLaws.{one-place, no-member}
 
 module _ {State : Type 0} (step : State → ℕ → Option State) (accepts : State → Bool) where
+  -- the machine reads sets: `Rest q` is the set of what may stand behind the bytes that led to q.
+  -- For each state that is live: whether it may end there, what each byte does, and bytes that complete it
+  pub record Reads (Live : State → Type 0) (Rest : State → List ℕ → Type 0) : Type 0 where
+    pub ends : {q : State} → Live q → (Rest q [] ↔ (accepts q ≡ true))
+    pub turns : {q : State} → Live q → (c : ℕ) (s : List ℕ) → (Rest q (c ∷ s) ↔ ((r : State) × (step q c ≡ some r) × Rest r s))
+    pub stays : {q : State} → Live q → (c : ℕ) {r : State} → step q c ≡ some r → Live r
+    pub completes : {q : State} → Live q → (rest : List ℕ) × Rest q rest
+
   -- one turn of a reader
   pub stop-turn : {q r : State} (k c : ℕ) (s : List ℕ) → step q c ≡ some r → stop step accepts q k (c ∷ s) ≡ stop step accepts r (suc k) s
   unfolding stop
@@ -29,7 +37,16 @@ module _ {State : Type 0} (step : State → ℕ → Option State) (accepts : Sta
   unfolding stop
   stop-short k e = rw (e, stop)
 
-  module _ {Live : State → Type 0} {Rest : State → List ℕ → Type 0} (w : Reads step accepts Live Rest) where
+  -- two states that do the same at the next byte, or at the end
+  pub stop-same : {q r : State} (k c : ℕ) (s : List ℕ) → step q c ≡ step r c → stop step accepts q k (c ∷ s) ≡ stop step accepts r k (c ∷ s)
+  unfolding stop
+  stop-same k c s e = ap (λ (o : Option State). elim o [ none ↦ some k | some x ↦ stop step accepts x (suc k) s ]) e
+
+  pub end-same : {q r : State} (k : ℕ) → accepts q ≡ accepts r → stop step accepts q k [] ≡ stop step accepts r k []
+  unfolding stop
+  end-same k e = ap (λ (b : Bool). elim b [ true ↦ none | false ↦ some k ]) e
+
+  module _ {Live : State → Type 0} {Rest : State → List ℕ → Type 0} (w : Reads Live Rest) where
     live-begins : {q : State} → Live q → Begins (Rest q) []
     live-begins l = let m = w .completes l in record { rest = m .0; member = m .1 }
 

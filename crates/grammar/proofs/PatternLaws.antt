@@ -8,8 +8,9 @@ use mathlib.Core.List.{List, [], _∷_, _++_}
 use native.Mathlib.Omega.{arith}
 use Rattle.lists.proofs.FirstLaws.{otherwise-none, otherwise-some}
 use Rattle.grammar.specs.Patterns.{Pattern, end, anything, one, many, either, All, One, Many, Fits}
-use Rattle.grammar.proofs.Machines.{Reads}
-use Rattle.grammar.proofs.Deriving.{derive, mayEnd, OneWay, Definite}
+use Rattle.grammar.specs.Stops.{derive, mayEnd}
+use Rattle.grammar.proofs.Definite.{OneWay, Definite}
+use Rattle.grammar.proofs.MachineLaws.{Reads}
 
 -- no list is empty and not
 full : {c : ℕ} {s : List ℕ} → _≡_ {A = List ℕ} [] (c ∷ s) → ⊥
@@ -58,19 +59,19 @@ end-fits (either p q) e = ⊎-elim (λ h. inl (end-fits p h)) (λ h. inr (end-fi
 abbrev pub Turn : Pattern → ℕ → List ℕ → Type 0
 Turn p c s = (r : Pattern) × (derive p c ≡ some r) × Fits r s
 
-derive-one : (t : ℕ → Bool) (p : Pattern) (c : ℕ) → t c ≡ true → derive (one t p) c ≡ some p
+pub derive-one : (t : ℕ → Bool) (p : Pattern) (c : ℕ) → t c ≡ true → derive (one t p) c ≡ some p
 unfolding derive
 derive-one t p c e = rw (e, derive)
 
-derive-many : (t : ℕ → Bool) (p : Pattern) (c : ℕ) → t c ≡ true → derive (many t p) c ≡ some (many t p)
+pub derive-many : (t : ℕ → Bool) (p : Pattern) (c : ℕ) → t c ≡ true → derive (many t p) c ≡ some (many t p)
 unfolding derive
 derive-many t p c e = rw (e, derive)
 
-derive-past : (t : ℕ → Bool) (p : Pattern) (c : ℕ) → t c ≡ false → derive (many t p) c ≡ derive p c
+pub derive-past : (t : ℕ → Bool) (p : Pattern) (c : ℕ) → t c ≡ false → derive (many t p) c ≡ derive p c
 unfolding derive
 derive-past t p c e = rw (e, derive)
 
-derive-off : (t : ℕ → Bool) (p : Pattern) (c : ℕ) → t c ≡ false → derive (one t p) c ≡ none
+pub derive-off : (t : ℕ → Bool) (p : Pattern) (c : ℕ) → t c ≡ false → derive (one t p) c ≡ none
 unfolding derive
 derive-off t p c e = rw (e, derive)
 

@@ -14,7 +14,8 @@ use Rattle.smtlib.specs.Characters.{whiteSpace, digitChar}
 use Rattle.smtlib.specs.Tokens.{digitValue}
 use Rattle.wording.specs.Sixteen.{symbolText}
 use Rattle.grammar.specs.Patterns.{Pattern, end, one, either, exact, times}
-use Rattle.grammar.proofs.Deriving.{derive, OneWay, Definite}
+use Rattle.grammar.specs.Stops.{derive}
+use Rattle.grammar.proofs.Definite.{OneWay, Definite}
 use Rattle.replies.specs.Replies.{blanks, mark, digitTo, anyValue, pair, pairs, listed, claim, replyOf, replyFor}
 use Rattle.replies.proofs.ByteLaws.{blank-low, space}
 

@@ -8,8 +8,7 @@ use Rattle.lists.specs.Ascii.{ascii}
 use Rattle.smtlib.specs.Characters.{whiteSpace, digitChar}
 use Rattle.smtlib.specs.Tokens.{digitValue}
 use Rattle.wording.specs.Sixteen.{symbolText}
-use Rattle.grammar.proofs.Machines.{stop}
-use Rattle.grammar.proofs.Deriving.{derive, mayEnd}
+use Rattle.grammar.specs.Stops.{stop, derive, mayEnd, stops}
 use Rattle.replies.specs.Replies.{replyFor}
 
 pub record Vector : Type 0 where
@@ -22,7 +21,7 @@ given v s o = record { variables = v; reply = ascii s; place = o }
 
 abbrev placed : List Vector → List (Option ℕ)
 placed [] = []
-placed (v ∷ vs) = stop derive mayEnd (replyFor (v .variables)) 0 (v .reply) ∷ placed vs
+placed (v ∷ vs) = stops (replyFor (v .variables)) 0 (v .reply) ∷ placed vs
 
 abbrev wanted : List Vector → List (Option ℕ)
 wanted [] = []
