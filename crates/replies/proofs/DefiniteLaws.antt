@@ -75,17 +75,17 @@ unfolding digitValue digitChar
 zero-bit = refl
 
 -- a spelling of values: definite, and begins with no blank
-pub record Spelling (value : Pattern → Pattern) : Type 0 where
-  pub definite : {p : Pattern} → Definite p → Definite (value p)
-  pub unblank : (p : Pattern) (c : ℕ) → whiteSpace c ≡ true → derive (value p) c ≡ none
+record Spelling (value : Pattern → Pattern) : Type 0 where
+  definite : {p : Pattern} → Definite p → Definite (value p)
+  unblank : (p : Pattern) (c : ℕ) → whiteSpace c ≡ true → derive (value p) c ≡ none
 
-pub any-spelling : Spelling anyValue
+any-spelling : Spelling anyValue
 any-spelling = record {
   definite = λ h. byte-definite 35 (fork-definite 120 98 (λ e. omega arith) (times-definite (digitTo 16) 48 zero-digit 4 h) (times-definite (digitTo 2) 48 zero-bit 16 h));
   unblank = λ p c e. off-blank 35 c _ (omega arith) e;
 }
 
-abbrev pub Spellings : List (Pattern → Pattern) → Type 0
+abbrev Spellings : List (Pattern → Pattern) → Type 0
 Spellings [] = Unit {0}
 Spellings (value ∷ values) = Spelling value × Spellings values
 
@@ -115,13 +115,13 @@ word-unblank : (a b : ℕ) (p q : Pattern) → 32 < a → 32 < b → (c : ℕ) �
 unfolding derive
 word-unblank a b p q h g c e = rw (off-blank a c p h e) (off-blank b c q g e)
 
-pub reply-definite : (values : List (Pattern → Pattern)) → Spellings values → Definite (replyOf values)
+reply-definite : (values : List (Pattern → Pattern)) → Spellings values → Definite (replyOf values)
 reply-definite values s =
     after-blanks
     (word-unblank 117 115 _ _ (omega arith) (omega arith))
     (fork-definite 117 115 (λ e. omega arith) (exact-definite (ascii "nsat") claim-definite) (exact-definite (ascii "at") (listed-definite values s)))
 
-pub all-spelled : (v : ℕ) → Spellings (replicate v anyValue)
+all-spelled : (v : ℕ) → Spellings (replicate v anyValue)
 all-spelled zero = tt
 all-spelled (suc v) = (any-spelling, all-spelled v)
 
