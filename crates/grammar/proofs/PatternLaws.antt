@@ -13,7 +13,7 @@ use Rattle.grammar.proofs.Definite.{OneWay, Definite}
 use Rattle.grammar.proofs.MachineLaws.{Reads}
 
 -- no list is empty and not
-full : {c : ℕ} {s : List ℕ} → _≡_ {A = List ℕ} [] (c ∷ s) → ⊥
+pub full : {c : ℕ} {s : List ℕ} → _≡_ {A = List ℕ} [] (c ∷ s) → ⊥
 full e = let z : _≡_ {A = ℕ} 0 1 = cc in omega arith
 
 silent : {A : Type 0} {o : Option A} {x : A} → o ≡ none → o ≡ some x → ⊥
