@@ -61,7 +61,8 @@ fn case_fails(sheet: &[u8], case: &[i32; MOST_VARIABLES]) -> Reading
     let Reading::Accepted = values else {
         return values;
     };
-    if evaluator::holds_at(sheet, case) {
+    let holds = evaluator::holds_at(sheet, case);
+    if holds {
         return Reading::Refused(Refusal {
             number: 13,
             place: 0,
