@@ -1,5 +1,5 @@
 pub mod BeginLaws
-pub mod Machines
 pub mod MachineLaws
-pub mod Deriving
+pub mod Definite
 pub mod PatternLaws
+pub mod FitLaws

@@ -8,10 +8,18 @@ use mathlib.Core.List.{List, [], _∷_, _++_}
 use native.Mathlib.Nat.{add-zero, zero-add, add-suc, suc-add}
 use native.Mathlib.Omega.{arith}
 use Rattle.grammar.specs.Begins.{Begins, Leaves, at-byte, too-short}
-use Rattle.grammar.proofs.Machines.{stop, Reads}
+use Rattle.grammar.specs.Stops.{stop}
 use Rattle.grammar.proofs.BeginLaws.{one-place, no-member}
 
 module _ {State : Type 0} (step : State → ℕ → Option State) (accepts : State → Bool) where
+  -- the machine reads sets: `Rest q` is the set of what may stand behind the bytes that led to q.
+  -- For each state that is live: whether it may end there, what each byte does, and bytes that complete it
+  pub record Reads (Live : State → Type 0) (Rest : State → List ℕ → Type 0) : Type 0 where
+    pub ends : {q : State} → Live q → (Rest q [] ↔ (accepts q ≡ true))
+    pub turns : {q : State} → Live q → (c : ℕ) (s : List ℕ) → (Rest q (c ∷ s) ↔ ((r : State) × (step q c ≡ some r) × Rest r s))
+    pub stays : {q : State} → Live q → (c : ℕ) {r : State} → step q c ≡ some r → Live r
+    pub completes : {q : State} → Live q → (rest : List ℕ) × Rest q rest
+
   -- one turn of a reader
   pub stop-turn : {q r : State} (k c : ℕ) (s : List ℕ) → step q c ≡ some r → stop step accepts q k (c ∷ s) ≡ stop step accepts r (suc k) s
   unfolding stop
@@ -29,7 +37,16 @@ module _ {State : Type 0} (step : State → ℕ → Option State) (accepts : Sta
   unfolding stop
   stop-short k e = rw (e, stop)
 
-  module _ {Live : State → Type 0} {Rest : State → List ℕ → Type 0} (w : Reads step accepts Live Rest) where
+  -- two states that do the same at the next byte, or at the end
+  pub stop-same : {q r : State} (k c : ℕ) (s : List ℕ) → step q c ≡ step r c → stop step accepts q k (c ∷ s) ≡ stop step accepts r k (c ∷ s)
+  unfolding stop
+  stop-same k c s e = ap (λ (o : Option State). elim o [ none ↦ some k | some x ↦ stop step accepts x (suc k) s ]) e
+
+  pub end-same : {q r : State} (k : ℕ) → accepts q ≡ accepts r → stop step accepts q k [] ≡ stop step accepts r k []
+  unfolding stop
+  end-same k e = ap (λ (b : Bool). elim b [ true ↦ none | false ↦ some k ]) e
+
+  module _ {Live : State → Type 0} {Rest : State → List ℕ → Type 0} (w : Reads Live Rest) where
     live-begins : {q : State} → Live q → Begins (Rest q) []
     live-begins l = let m = w .completes l in record { rest = m .0; member = m .1 }
 
@@ -57,7 +74,7 @@ module _ {State : Type 0} (step : State → ℕ → Option State) (accepts : Sta
     leaves-turn {q} {r} l c {s} e (too-short b n) = too-short (begins-turn l c e b) (λ m. let t = w .turns l c s .0 m in n (subst (λ (x : State). Rest x s) (same-state e (t .1)) (t .2)))
 
     -- where the machine accepts, and where it stops
-    pub data Outcome (q : State) (k : ℕ) (s : List ℕ) : Option ℕ → Type 0 where
+    data Outcome (q : State) (k : ℕ) (s : List ℕ) : Option ℕ → Type 0 where
       member : Rest q s → Outcome q k s none
       leaves : (p : ℕ) → Leaves (Rest q) s p → Outcome q k s (some (k + p))
 
@@ -65,7 +82,7 @@ module _ {State : Type 0} (step : State → ℕ → Option State) (accepts : Sta
     outcome-turn l k c {s} e (member m) = member (w .turns l c s .1 (_, e, m))
     outcome-turn {q} l k c {s} e (leaves p h) = subst (λ (n : ℕ). Outcome q k (c ∷ s) (some n)) (add-suc k p ∙ sym (suc-add k p)) (leaves (suc p) (leaves-turn l c e h))
 
-    pub outcome : (s : List ℕ) (k : ℕ) {q : State} → Live q → Outcome q k s (stop step accepts q k s)
+    outcome : (s : List ℕ) (k : ℕ) {q : State} → Live q → Outcome q k s (stop step accepts q k s)
     outcome [] k {q} l = go (accepts q) refl
       where
         go : (b : Bool) → accepts q ≡ b → Outcome q k [] (stop step accepts q k [])
@@ -78,9 +95,6 @@ module _ {State : Type 0} (step : State → ℕ → Option State) (accepts : Sta
         go (some r) e more = rw (stop-turn k c s e) (outcome-turn l k c e (more r e))
 
     module _ {q : State} (l : Live q) (s : List ℕ) where
-      told : (o : Option ℕ) → stop step accepts q 0 s ≡ o → Outcome q 0 s o
-      told o e = subst (Outcome q 0 s) e (outcome s 0 l)
-
       accepted : {o : Option ℕ} → Outcome q 0 s o → o ≡ none → Rest q s
       accepted (member m) e = m
       accepted (leaves p h) e = absurd (let z : _≡_ {A = ℕ} 0 1 = cc in omega arith)

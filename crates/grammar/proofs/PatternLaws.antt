@@ -7,12 +7,13 @@ use mathlib.Core.Option.{Option, none, some}
 use mathlib.Core.List.{List, [], _∷_, _++_}
 use native.Mathlib.Omega.{arith}
 use Rattle.lists.proofs.FirstLaws.{otherwise-none, otherwise-some}
-use Rattle.grammar.specs.Patterns.{Pattern, end, anything, one, many, either, All, One, Many, Fits}
-use Rattle.grammar.proofs.Machines.{Reads}
-use Rattle.grammar.proofs.Deriving.{derive, mayEnd, OneWay, Definite}
+use Rattle.grammar.specs.Patterns.{Pattern, end, anything, one, many, either, All, OneByte, ManyBytes, Fits}
+use Rattle.grammar.specs.Stops.{derive, mayEnd}
+use Rattle.grammar.proofs.Definite.{OneWay, Definite}
+use Rattle.grammar.proofs.MachineLaws.{Reads}
 
 -- no list is empty and not
-full : {c : ℕ} {s : List ℕ} → _≡_ {A = List ℕ} [] (c ∷ s) → ⊥
+pub full : {c : ℕ} {s : List ℕ} → _≡_ {A = List ℕ} [] (c ∷ s) → ⊥
 full e = let z : _≡_ {A = ℕ} 0 1 = cc in omega arith
 
 silent : {A : Type 0} {o : Option A} {x : A} → o ≡ none → o ≡ some x → ⊥
@@ -31,7 +32,7 @@ or-true false b e = inr e
 
 -- ---- the end
 
-pub fits-end : (p : Pattern) → Fits p [] → mayEnd p ≡ true
+fits-end : (p : Pattern) → Fits p [] → mayEnd p ≡ true
 unfolding Fits mayEnd
 fits-end end h = refl
 fits-end anything h = refl
@@ -44,7 +45,7 @@ fits-end (many t p) h = fits-end p (subst (Fits p) (sym (last (h .bytes) (h .res
 fits-end (either p q) (inl h) = left-true (mayEnd p) (mayEnd q) (fits-end p h)
 fits-end (either p q) (inr h) = right-true (mayEnd p) (mayEnd q) (fits-end q h)
 
-pub end-fits : (p : Pattern) → mayEnd p ≡ true → Fits p []
+end-fits : (p : Pattern) → mayEnd p ≡ true → Fits p []
 unfolding Fits mayEnd
 end-fits end e = refl
 end-fits anything e = tt
@@ -55,29 +56,29 @@ end-fits (either p q) e = ⊎-elim (λ h. inl (end-fits p h)) (λ h. inr (end-fi
 -- ---- a byte
 
 -- the pattern behind byte c, and what fits it
-abbrev pub Turn : Pattern → ℕ → List ℕ → Type 0
+abbrev Turn : Pattern → ℕ → List ℕ → Type 0
 Turn p c s = (r : Pattern) × (derive p c ≡ some r) × Fits r s
 
-derive-one : (t : ℕ → Bool) (p : Pattern) (c : ℕ) → t c ≡ true → derive (one t p) c ≡ some p
+pub derive-one : (t : ℕ → Bool) (p : Pattern) (c : ℕ) → t c ≡ true → derive (one t p) c ≡ some p
 unfolding derive
 derive-one t p c e = rw (e, derive)
 
-derive-many : (t : ℕ → Bool) (p : Pattern) (c : ℕ) → t c ≡ true → derive (many t p) c ≡ some (many t p)
+pub derive-many : (t : ℕ → Bool) (p : Pattern) (c : ℕ) → t c ≡ true → derive (many t p) c ≡ some (many t p)
 unfolding derive
 derive-many t p c e = rw (e, derive)
 
-derive-past : (t : ℕ → Bool) (p : Pattern) (c : ℕ) → t c ≡ false → derive (many t p) c ≡ derive p c
+pub derive-past : (t : ℕ → Bool) (p : Pattern) (c : ℕ) → t c ≡ false → derive (many t p) c ≡ derive p c
 unfolding derive
 derive-past t p c e = rw (e, derive)
 
-derive-off : (t : ℕ → Bool) (p : Pattern) (c : ℕ) → t c ≡ false → derive (one t p) c ≡ none
+pub derive-off : (t : ℕ → Bool) (p : Pattern) (c : ℕ) → t c ≡ false → derive (one t p) c ≡ none
 unfolding derive
 derive-off t p c e = rw (e, derive)
 
 same-derived : {o : Option Pattern} {p r : Pattern} → o ≡ some p → o ≡ some r → p ≡ r
 same-derived e d = cc
 
-pub fits-turn : (p : Pattern) → OneWay p → (c : ℕ) (s : List ℕ) → Fits p (c ∷ s) → Turn p c s
+fits-turn : (p : Pattern) → OneWay p → (c : ℕ) (s : List ℕ) → Fits p (c ∷ s) → Turn p c s
 unfolding Fits OneWay derive
 fits-turn end d c s h = absurd (full (sym h))
 fits-turn anything d c s h = (anything, refl, tt)
@@ -103,21 +104,21 @@ fits-turn (either p q) d c s (inr h) =
     let w = fits-turn q (d .2) c s h in
     (w .0, ⊎-elim (λ e. otherwise-none (derive q c) e ∙ w .1) (λ e. absurd (silent e (w .1))) (d .0 c), w .2)
 
-pub turn-fits : (p : Pattern) (c : ℕ) (s : List ℕ) {r : Pattern} → derive p c ≡ some r → Fits r s → Fits p (c ∷ s)
+turn-fits : (p : Pattern) (c : ℕ) (s : List ℕ) {r : Pattern} → derive p c ≡ some r → Fits r s → Fits p (c ∷ s)
 unfolding Fits derive
 turn-fits end c s e f = absurd (silent refl e)
 turn-fits anything c s e f = tt
 turn-fits (one t p) c s {r} e f = go (t c) refl
   where
-    go : (b : Bool) → t c ≡ b → One t (Fits p) (c ∷ s)
+    go : (b : Bool) → t c ≡ b → OneByte t (Fits p) (c ∷ s)
     go true h = record { byte = c; rest = s; split = refl; fits = h; then = subst (λ (x : Pattern). Fits x s) (same-derived e (derive-one t p c h)) f }
     go false h = absurd (silent (derive-off t p c h) e)
 turn-fits (many t p) c s {r} e f = go (t c) refl (λ q. turn-fits p c s q f)
   where
-    front : Fits (many t p) s → t c ≡ true → Many t (Fits p) (c ∷ s)
+    front : Fits (many t p) s → t c ≡ true → ManyBytes t (Fits p) (c ∷ s)
     front m h = record { bytes = c ∷ m .bytes; rest = m .rest; split = ap (λ (l : List ℕ). c ∷ l) (m .split); fits = (h, m .fits); then = m .then }
 
-    go : (b : Bool) → t c ≡ b → (derive p c ≡ some r → Fits p (c ∷ s)) → Many t (Fits p) (c ∷ s)
+    go : (b : Bool) → t c ≡ b → (derive p c ≡ some r → Fits p (c ∷ s)) → ManyBytes t (Fits p) (c ∷ s)
     go true h more = front (subst (λ (x : Pattern). Fits x s) (same-derived e (derive-many t p c h)) f) h
     go false h more = record { bytes = []; rest = c ∷ s; split = refl; fits = tt; then = more (sym (derive-past t p c h) ∙ e) }
 turn-fits (either p q) c s {r} e f = go (derive p c) refl (λ h. turn-fits p c s h f) (λ h. turn-fits q c s h f)
@@ -127,7 +128,7 @@ turn-fits (either p q) c s {r} e f = go (derive p c) refl (λ h. turn-fits p c s
     go (some x) h a b = inl (a (h ∙ sym (otherwise-some (derive q c) h) ∙ e))
 
 -- what is left is definite too
-pub stays-one-way : (p : Pattern) → OneWay p → (c : ℕ) {r : Pattern} → derive p c ≡ some r → OneWay r
+stays-one-way : (p : Pattern) → OneWay p → (c : ℕ) {r : Pattern} → derive p c ≡ some r → OneWay r
 unfolding OneWay derive
 stays-one-way end d c e = absurd (silent refl e)
 stays-one-way anything d c {r} e = subst OneWay (same-derived refl e) tt
@@ -148,7 +149,7 @@ stays-one-way (either p q) d c {r} e = go (derive p c) refl (λ h. stays-one-way
     go (some x) h a b = a (h ∙ sym (otherwise-some (derive q c) h) ∙ e)
 
 -- bytes that fit
-pub fitting : (p : Pattern) → OneWay p → (s : List ℕ) × Fits p s
+fitting : (p : Pattern) → OneWay p → (s : List ℕ) × Fits p s
 unfolding OneWay Fits
 fitting end d = ([], refl)
 fitting anything d = ([], tt)

@@ -1,10 +1,12 @@
 pub mod ByteLaws
-pub mod Left
-pub mod LeftLaws
 pub mod DefiniteLaws
+pub mod PassLaws
 pub mod ReachLaws
 pub mod SaysLaws
 pub mod HashLaws
 pub mod OnceLaws
 pub mod SatLaws
+pub mod NumberLaws
+pub mod Unique
+pub mod Spelled
 pub mod Vectors

@@ -1,59 +1,30 @@
--- The turns of the reader's loop: the pattern's machine stops where it would from the present state on. Assumes nothing.
-use Prim.Native.Nat.{ℕ, suc, _+_, _≤_, _<_}
-use mathlib.Core.Path.{_≡_, refl, ap, _∙_}
-use mathlib.Core.Bool.{true, false}
-use mathlib.Core.Option.{Option, none, some, Option·map}
-use mathlib.Core.List.{List, [], _∷_}
-use native.Mathlib.Numerals.{add-one}
+-- What the reader answers, from where its reading stops. Assumes nothing.
+use Prim.Native.Nat.{ℕ}
+use mathlib.Core.Path.{_≡_, sym, _∙_}
+use mathlib.Core.List.{List}
 use native.Mathlib.Omega.{arith}
-use lib.ListN.{length, getD, drop, drop-of-length-le}
-use lib.Seq.{drop-cons}
-use Rattle.grammar.specs.Begins.{Leaves}
-use Rattle.grammar.proofs.Machines.{stop}
-use Rattle.grammar.proofs.Deriving.{derive, mayEnd}
-use Rattle.grammar.proofs.MachineLaws.{stop-turn, stop-off, stop-end, stop-short, accepts-exactly, stops-exactly}
+use lib.ListN.{getD, replicate}
+use Rattle.lists.specs.Ascii.{ascii}
+use Rattle.grammar.specs.Patterns.{exact}
+use Rattle.grammar.specs.Stops.{derive, mayEnd, stops}
+use Rattle.grammar.proofs.MachineLaws.{accepts-exactly, stops-exactly}
 use Rattle.grammar.proofs.PatternLaws.{pattern-reads}
-use Rattle.replies.specs.declared.Phase.the-variants.{Front}
-use Rattle.replies.specs.declared.State.{State}
-use Rattle.replies.specs.Phases.{state, stepBy, endsIn}
-use Rattle.replies.specs.Replies.{replyFor, Reply}
-use Rattle.replies.proofs.Left.{left}
-use Rattle.replies.proofs.LeftLaws.{derived, ended}
+use Rattle.replies.specs.declared.Here.{Here}
+use Rattle.replies.specs.declared.Reached.{Reached}
+use Rattle.replies.specs.declared.Reached.the-variants.{Whole, Stopped}
+use Rattle.replies.specs.Replies.{blanks, anyValue, listed, claim, replyFor}
+use Rattle.replies.specs.Answers.{Answers}
+use Rattle.replies.specs.Here.{stopFrom, Passes, placeOf}
 use Rattle.replies.proofs.DefiniteLaws.{definite-for}
+use Rattle.replies.proofs.PassLaws.{at, fork-first, fork-second}
 
-pub record Reading (v : ℕ) (s : List ℕ) (q : State) (k : ℕ) : Type 0 where
-  pub inside : k ≤ length s
-  pub same : stop derive mayEnd (replyFor v) 0 s ≡ stop derive mayEnd (left v q) k (drop k s)
+answers : (v : ℕ) (s : List ℕ) (r : Reached) → placeOf r ≡ stops (replyFor v) 0 s → Answers v s r
+answers v s Whole e = accepts-exactly derive mayEnd pattern-reads (definite-for v) s .0 (sym e)
+answers v s (Stopped p) e = stops-exactly derive mayEnd pattern-reads (definite-for v) s p .0 (sym e)
 
-abbrev pub stepOf : ℕ → State → ℕ → Option State
-stepOf v q c = stepBy v (q .phase) (q .variable) (q .left) c
+module _ (v : ℕ) (r : Reached) {s : List ℕ} {h : Here} (x : Passes blanks s (at 0) h) where
+  pub reach-unsat : getD s (h .place) 0 ≡ 117 → placeOf r ≡ stopFrom (exact (ascii "unsat") claim) s h → Answers v s r
+  reach-unsat e f = answers v s r (f ∙ sym (x .same _ ∙ fork-first s h 117 _ _ (λ z. omega arith) e))
 
-pub reading-begin : (v : ℕ) (s : List ℕ) → Reading v s (state Front 0 0) 0
-reading-begin v s = record { inside = omega arith; same = refl }
-
-module _ {v : ℕ} {s : List ℕ} {q : State} {k : ℕ} (w : Reading v s q k) where
-  led : {o : Option State} → stepOf v q (getD s k 0) ≡ o → derive (left v q) (getD s k 0) ≡ Option·map (left v) o
-  led e = derived v (q .phase) (q .variable) (q .left) (getD s k 0) ∙ ap (Option·map (left v)) e
-
-  split : k < length s → stop derive mayEnd (replyFor v) 0 s ≡ stop derive mayEnd (left v q) k (getD s k 0 ∷ drop (suc k) s)
-  split h = w .same ∙ ap (stop derive mayEnd (left v q) k) (drop-cons s k 0 h)
-
-  at-end : length s ≤ k → stop derive mayEnd (replyFor v) 0 s ≡ stop derive mayEnd (left v q) k []
-  at-end h = w .same ∙ ap (stop derive mayEnd (left v q) k) (drop-of-length-le s h)
-
-  pub reading-turn : {r : State} → k < length s → stepOf v q (getD s k 0) ≡ some r → Reading v s r (k + 1)
-  reading-turn {r} h e =
-      let m = led e in
-      record {
-        inside = omega arith;
-        same = rw add-one (split h ∙ stop-turn derive mayEnd k (getD s k 0) (drop (suc k) s) m);
-      }
-
-  pub reading-off : k < length s → stepOf v q (getD s k 0) ≡ none → Leaves (Reply v) s k
-  reading-off h e = stops-exactly derive mayEnd pattern-reads (definite-for v) s k .0 (split h ∙ stop-off derive mayEnd k (getD s k 0) (drop (suc k) s) (led e))
-
-  pub reading-whole : length s ≤ k → endsIn (q .phase) ≡ true → Reply v s
-  reading-whole h e = accepts-exactly derive mayEnd pattern-reads (definite-for v) s .0 (at-end h ∙ stop-end derive mayEnd k (ended v (q .phase) (q .variable) (q .left) ∙ e))
-
-  pub reading-short : length s ≤ k → endsIn (q .phase) ≡ false → Leaves (Reply v) s k
-  reading-short h e = stops-exactly derive mayEnd pattern-reads (definite-for v) s k .0 (at-end h ∙ stop-short derive mayEnd k (ended v (q .phase) (q .variable) (q .left) ∙ e))
+  pub reach-sat : (getD s (h .place) 0 ≡ 117 → ⊥) → placeOf r ≡ stopFrom (exact (ascii "sat") (listed (replicate v anyValue))) s h → Answers v s r
+  reach-sat n f = answers v s r (f ∙ sym (x .same _ ∙ fork-second s h 117 _ _ n))

@@ -1,54 +1,32 @@
-// Reads a solver's reply, byte by byte.
+// Reads a solver's reply, one part of its grammar after another.
 ghost use mathlib.Core.Path.{_≡_};
 ghost use mathlib.Core.Bool.{cond};
+ghost use mathlib.Core.Option.{none, some};
 ghost use Prim.Native.Nat.{_+_, _/_, _%_};
-ghost use lib.Dec.{eqb, ltb};
+ghost use lib.Dec.{eqb};
+ghost use lib.ListN.{getD, replicate};
+ghost use Rattle.lists.specs.Ascii.{ascii};
 ghost use Rattle.smtlib.specs.Characters.{whiteSpace};
 ghost use Rattle.smtlib.specs.Tokens.{digitValue};
-ghost use Rattle.replies.specs.Phases.{nextOf, state, taken, skipping, fewer, stepBy, endsIn};
+ghost use Rattle.wording.specs.Sixteen.{symbolText};
+ghost use Rattle.grammar.specs.Patterns.{end, one, exact, times};
+ghost use Rattle.replies.specs.Replies.{blanks, mark, digitTo, anyValue, pair, pairs, listed, claim};
 ghost use Rattle.replies.specs.Answers.{Answers, satFirst};
+ghost use Rattle.replies.specs.Here.{stopFrom, Passes, Takes, firstDigit, placeOf};
 
 // How many digits of each kind spell a value.
 pub const HEX_DIGITS: usize = 4;
 
 pub const BINARY_DIGITS: usize = 16;
 
-// What has been read of a reply.
-pub enum Phase {
-    Front,
-    ReadU,
-    ReadUn,
-    ReadUns,
-    ReadUnsa,
-    Claimed,
-    Unread,
-    ReadS,
-    ReadSa,
-    Open,
-    Pair,
-    Name,
-    Tens,
-    Units,
-    Gap,
-    Value,
-    Base,
-    Hex,
-    Binary,
-    Close,
-    Back,
-}
+const UNSAT: [u8; 5] = *b"unsat";
 
-// The variable that is read, and how many digits come behind the next one.
-pub struct State {
-    pub phase: Phase,
-    pub variable: usize,
-    pub left: usize,
-}
+const SAT: [u8; 3] = *b"sat";
 
-// A byte fits no reply, or leads on.
-pub enum Next {
-    Off,
-    On(State),
+// Where the reading stands: before a place, or off at it, since the byte there fits no reply.
+struct Here {
+    place: usize,
+    off: bool,
 }
 
 // The bytes are a reply, or the place of the first that fits none.
@@ -60,41 +38,170 @@ pub enum Reached {
 fn blank(c: u8) -> bool
     ensures { λ r. ⌜ r ≡ whiteSpace c ⌝ }
 {
-    if c == 32 {
+    if c == b' ' {
         return true;
     }
-    if c == 10 {
+    if c == b'\n' {
         return true;
     }
-    if c == 9 {
+    if c == b'\t' {
         return true;
     }
-    c == 13
+    c == b'\r'
 }
 
 // A digit's value, in either case; 16 for any other byte.
 pub fn digit(c: u8) -> u8
     ensures { λ r. ⌜ r ≡ digitValue c ⌝ }
 {
-    if c < 48 {
+    if c < b'0' {
         return 16;
     }
-    if c <= 57 {
-        return c - 48;
+    if c <= b'9' {
+        return c - b'0';
     }
-    if c < 65 {
+    if c < b'A' {
         return 16;
     }
-    if c <= 70 {
+    if c <= b'F' {
         return c - 55;
     }
-    if c < 97 {
+    if c < b'a' {
         return 16;
     }
-    if c <= 102 {
+    if c <= b'f' {
         return c - 87;
     }
     16
+}
+
+// The byte that stands here; 0 where there is none.
+fn peek(reply: &[u8], here: Here) -> u8
+    ensures { λ r. ⌜ r ≡ getD (now (reply .entry)) (here .place) 0 ⌝ }
+{
+    let k = here.place;
+    if k < reply.len() {
+        return reply[k];
+    }
+    0
+}
+
+// Behind the byte that stands here, if it fits.
+fn behind(reply: &[u8], here: Here, fits: bool) -> Here
+    ensures { λ r. ⌜ Takes (now (reply .entry)) here fits r ⌝ }
+{
+    if here.off {
+        return here;
+    }
+    let k = here.place;
+    if reply.len() <= k {
+        return Here {
+            place: k,
+            off: true,
+        };
+    }
+    if fits {
+        return Here {
+            place: k + 1,
+            off: false,
+        };
+    }
+    Here {
+        place: k,
+        off: true,
+    }
+}
+
+fn byte(reply: &[u8], here: Here, wanted: u8) -> Here
+    ensures { λ r. ⌜ Passes (one (eqb wanted)) (now (reply .entry)) here r ⌝ }
+{
+    behind(reply, here, wanted == peek(reply, here))
+}
+
+fn one_blank(reply: &[u8], here: Here) -> Here
+    ensures { λ r. ⌜ Passes (one whiteSpace) (now (reply .entry)) here r ⌝ }
+{
+    behind(reply, here, blank(peek(reply, here)))
+}
+
+fn one_digit(reply: &[u8], here: Here, base: u8) -> Here
+    ensures { λ r. ⌜ Passes (one (digitTo base)) (now (reply .entry)) here r ⌝ }
+{
+    behind(reply, here, digit(peek(reply, here)) < base)
+}
+
+// All blanks from here on.
+fn blanks(reply: &[u8], here: Here) -> Here
+    ensures { λ r. ⌜ Passes blanks (now (reply .entry)) here r ⌝ }
+{
+    if here.off {
+        return here;
+    }
+    let mut k = here.place;
+    while k < reply.len() {
+        if blank(reply[k]) {
+            k += 1;
+        } else {
+            return Here {
+                place: k,
+                off: false,
+            };
+        }
+    }
+    Here {
+        place: k,
+        off: false,
+    }
+}
+
+// These bytes.
+fn text(reply: &[u8], here: Here, wanted: &[u8]) -> Here
+    ensures { λ r. ⌜ Passes (exact (now (wanted .entry))) (now (reply .entry)) here r ⌝ }
+{
+    let mut h = here;
+    let mut j: usize = 0;
+    while j < wanted.len() {
+        h = byte(reply, h, wanted[j]);
+        j += 1;
+    }
+    h
+}
+
+// Blanks and a parenthesis.
+fn mark(reply: &[u8], here: Here, wanted: u8) -> Here
+    ensures { λ r. ⌜ Passes (mark wanted) (now (reply .entry)) here r ⌝ }
+{
+    byte(reply, blanks(reply, here), wanted)
+}
+
+// So many digits to the base.
+fn numeral(reply: &[u8], here: Here, base: u8, count: usize) -> Here
+    ensures { λ r. ⌜ Passes (times count (digitTo base)) (now (reply .entry)) here r ⌝ }
+{
+    let mut h = here;
+    let mut left = count;
+    while left > 0 {
+        h = one_digit(reply, h, base);
+        left -= 1;
+    }
+    h
+}
+
+// The letter of a base, and the digits.
+fn based(reply: &[u8], here: Here, letter: u8, base: u8, count: usize) -> Here
+    ensures { λ r. ⌜ Passes (λ p. one (eqb letter) (times count (digitTo base) p)) (now (reply .entry)) here r ⌝ }
+{
+    numeral(reply, byte(reply, here, letter), base, count)
+}
+
+fn value(reply: &[u8], here: Here) -> Here
+    ensures { λ r. ⌜ Passes anyValue (now (reply .entry)) here r ⌝ }
+{
+    let hash = byte(reply, here, b'#');
+    if peek(reply, hash) == b'x' {
+        return based(reply, hash, b'x', 16, HEX_DIGITS);
+    }
+    based(reply, hash, b'b', 2, BINARY_DIGITS)
 }
 
 fn tens(i: usize) -> u8
@@ -109,318 +216,132 @@ fn units(i: usize) -> u8
     (48 + i % 10) as u8
 }
 
-fn one(c: u8, wanted: u8, on: State) -> Next
-    ensures { λ r. ⌜ nextOf r ≡ taken (eqb wanted c) on ⌝ }
-{
-    if wanted == c {
-        return Next::On(on);
-    }
-    Next::Off
-}
-
-fn spaced(c: u8, wanted: u8, here: State, on: State) -> Next
-    ensures { λ r. ⌜ nextOf r ≡ skipping (whiteSpace c) here (taken (eqb wanted c) on) ⌝ }
-{
-    if blank(c) {
-        return Next::On(here);
-    }
-    one(c, wanted, on)
-}
-
-fn gap(c: u8, on: State) -> Next
-    ensures { λ r. ⌜ nextOf r ≡ taken (whiteSpace c) on ⌝ }
-{
-    if blank(c) {
-        return Next::On(on);
-    }
-    Next::Off
-}
-
-// Behind a digit: the next one, or the value's end.
-fn behind_digit(phase: Phase, i: usize, left: usize) -> State
-    ensures { λ r. ⌜ r ≡ fewer phase i left ⌝ }
-{
-    if left == 0 {
-        return State {
-            phase: Phase::Close,
-            variable: i,
-            left: 0,
-        };
-    }
-    State {
-        phase,
-        variable: i,
-        left: left - 1,
-    }
-}
-
-fn number(c: u8, base: u8, phase: Phase, i: usize, left: usize) -> Next
-    ensures { λ r. ⌜ nextOf r ≡ taken (ltb (digitValue c) base) (fewer phase i left) ⌝ }
-{
-    if digit(c) < base {
-        return Next::On(behind_digit(phase, i, left));
-    }
-    Next::Off
-}
-
-// The two letters with which a reply's word begins.
-fn first_letter(c: u8, i: usize, left: usize) -> Next
-    ensures { λ r. ⌜ nextOf r ≡ stepBy 0 Phase.Front i left c ⌝ }
-{
-    if blank(c) {
-        return Next::On(State {
-            phase: Phase::Front,
-            variable: i,
-            left,
-        });
-    }
-    if c == 117 {
-        return Next::On(State {
-            phase: Phase::ReadU,
-            variable: i,
-            left,
-        });
-    }
-    one(
-        c,
-        115,
-        State {
-            phase: Phase::ReadS,
-            variable: i,
-            left,
-        },
-    )
-}
-
-// Behind `sat`.
-fn behind_sat(count: usize, i: usize, left: usize) -> State
-    ensures { λ r. ⌜ r ≡ cond (eqb count 0) (state Phase.Back i left) (state Phase.Open i left) ⌝ }
-{
-    if count == 0 {
-        return State {
-            phase: Phase::Back,
-            variable: i,
-            left,
-        };
-    }
-    State {
-        phase: Phase::Open,
-        variable: i,
-        left,
-    }
-}
-
-// Behind `v`.
-fn behind_v(i: usize, left: usize) -> State
-    ensures { λ r. ⌜ r ≡ cond (ltb i 10) (state Phase.Units i left) (state Phase.Tens i left) ⌝ }
+// A symbol's first digit, where it has two.
+fn first_digit(reply: &[u8], here: Here, i: usize) -> Here
+    ensures { λ r. ⌜ Passes (exact (firstDigit i)) (now (reply .entry)) here r ⌝ }
 {
     if i < 10 {
-        return State {
-            phase: Phase::Units,
-            variable: i,
-            left,
-        };
+        return here;
     }
-    State {
-        phase: Phase::Tens,
-        variable: i,
-        left,
-    }
+    byte(reply, here, tens(i))
 }
 
-// Behind a pair.
-fn behind_pair(count: usize, i: usize, left: usize) -> State
-    ensures { λ r. ⌜ r ≡ cond (ltb i count) (state Phase.Pair (i + 1) left) (state Phase.Pair i left) ⌝ }
+fn symbol(reply: &[u8], here: Here, i: usize) -> Here
+    ensures { λ r. ⌜ Passes (exact (symbolText i)) (now (reply .entry)) here r ⌝ }
 {
-    if i < count {
-        return State {
-            phase: Phase::Pair,
-            variable: i + 1,
-            left,
-        };
-    }
-    State {
-        phase: Phase::Pair,
-        variable: i,
-        left,
-    }
+    let digits = first_digit(reply, byte(reply, here, b'v'), i);
+    byte(reply, digits, units(i))
 }
 
-// The next pair, or the list's end.
-fn before_pair(c: u8, count: usize, i: usize, left: usize) -> Next
-    ensures { λ r. ⌜ nextOf r ≡ stepBy count Phase.Pair i left c ⌝ }
+// A pair up to its symbol.
+fn opened(reply: &[u8], here: Here, i: usize) -> Here
+    ensures { λ r. ⌜ Passes (λ p. mark 40 (blanks (exact (symbolText i) p))) (now (reply .entry)) here r ⌝ }
 {
-    let here = State {
-        phase: Phase::Pair,
-        variable: i,
-        left,
-    };
-    if i < count {
-        return spaced(
-            c,
-            40,
-            here,
-            State {
-                phase: Phase::Name,
-                variable: i,
-                left,
-            },
-        );
-    }
-    spaced(
-        c,
-        41,
-        here,
-        State {
-            phase: Phase::Back,
-            variable: i,
-            left,
-        },
-    )
+    let open = mark(reply, here, b'(');
+    symbol(reply, blanks(reply, open), i)
 }
 
-// Behind `#`.
-fn base(c: u8, i: usize) -> Next
-    ensures { λ r. ⌜ nextOf r ≡ stepBy 0 Phase.Base i 0 c ⌝ }
+// A variable and its value.
+fn pair(reply: &[u8], here: Here, i: usize) -> Here
+    ensures { λ r. ⌜ Passes (pair i anyValue) (now (reply .entry)) here r ⌝ }
 {
-    if c == 120 {
-        return Next::On(State {
-            phase: Phase::Hex,
-            variable: i,
-            left: HEX_DIGITS - 1,
-        });
-    }
-    one(
-        c,
-        98,
-        State {
-            phase: Phase::Binary,
-            variable: i,
-            left: BINARY_DIGITS - 1,
-        },
-    )
+    let gap = one_blank(reply, opened(reply, here, i));
+    let said = value(reply, blanks(reply, gap));
+    mark(reply, said, b')')
 }
 
-fn at_phase(phase: Phase, i: usize, left: usize) -> State
-    ensures { λ r. ⌜ r ≡ state phase i left ⌝ }
+// Each variable once, in order.
+fn pairs(reply: &[u8], here: Here, count: usize) -> Here
+    ensures { λ r. ⌜ Passes (pairs 0 (replicate count anyValue)) (now (reply .entry)) here r ⌝ }
 {
-    State {
-        phase,
-        variable: i,
-        left,
+    let mut h = here;
+    let mut i: usize = 0;
+    while i < count {
+        h = pair(reply, h, i);
+        i += 1;
     }
+    h
 }
 
-// What a byte does.
-fn step(count: usize, phase: Phase, i: usize, left: usize, c: u8) -> Next
-    ensures { λ r. ⌜ nextOf r ≡ stepBy count phase i left c ⌝ }
+// The list, where there are variables, and blanks.
+fn list(reply: &[u8], here: Here, count: usize) -> Here
+    ensures { λ r. ⌜ stopFrom (listed (replicate count anyValue)) (now (reply .entry)) here ≡ stopFrom end (now (reply .entry)) r ⌝ }
 {
-    match phase {
-        Phase::Front => return first_letter(c, i, left),
-        Phase::ReadU => return one(c, 110, at_phase(Phase::ReadUn, i, left)),
-        Phase::ReadUn => return one(c, 115, at_phase(Phase::ReadUns, i, left)),
-        Phase::ReadUns => return one(c, 97, at_phase(Phase::ReadUnsa, i, left)),
-        Phase::ReadUnsa => return one(c, 116, at_phase(Phase::Claimed, i, left)),
-        Phase::Claimed => return gap(c, at_phase(Phase::Unread, i, left)),
-        Phase::Unread => return Next::On(at_phase(Phase::Unread, i, left)),
-        Phase::ReadS => return one(c, 97, at_phase(Phase::ReadSa, i, left)),
-        Phase::ReadSa => return one(c, 116, behind_sat(count, i, left)),
-        Phase::Open => return spaced(
-            c,
-            40,
-            at_phase(Phase::Open, i, left),
-            at_phase(Phase::Pair, 0, left),
-        ),
-        Phase::Pair => return before_pair(c, count, i, left),
-        Phase::Name => return spaced(c, 118, at_phase(Phase::Name, i, left), behind_v(i, left)),
-        Phase::Tens => return one(c, tens(i), at_phase(Phase::Units, i, left)),
-        Phase::Units => return one(c, units(i), at_phase(Phase::Gap, i, left)),
-        Phase::Gap => return gap(c, at_phase(Phase::Value, i, left)),
-        Phase::Value => return spaced(
-            c,
-            35,
-            at_phase(Phase::Value, i, left),
-            at_phase(Phase::Base, i, left),
-        ),
-        Phase::Base => return base(c, i),
-        Phase::Hex => return number(c, 16, Phase::Hex, i, left),
-        Phase::Binary => return number(c, 2, Phase::Binary, i, left),
-        Phase::Close => return spaced(
-            c,
-            41,
-            at_phase(Phase::Close, i, left),
-            behind_pair(count, i, left),
-        ),
-        Phase::Back => return gap(c, at_phase(Phase::Back, i, left)),
+    if count == 0 {
+        return blanks(reply, here);
     }
+    let open = mark(reply, here, b'(');
+    let close = mark(reply, pairs(reply, open, count), b')');
+    blanks(reply, close)
 }
 
-// A reply may end in this phase.
-fn may_end(phase: Phase) -> bool
-    ensures { λ r. ⌜ r ≡ endsIn phase ⌝ }
+// The reply must end here.
+fn ended(reply: &[u8], here: Here) -> Reached
+    ensures { λ r. ⌜ placeOf r ≡ stopFrom end (now (reply .entry)) here ⌝ }
 {
-    match phase {
-        Phase::Claimed => return true,
-        Phase::Unread => return true,
-        Phase::Back => return true,
-        Phase::Front => return false,
-        Phase::ReadU => return false,
-        Phase::ReadUn => return false,
-        Phase::ReadUns => return false,
-        Phase::ReadUnsa => return false,
-        Phase::ReadS => return false,
-        Phase::ReadSa => return false,
-        Phase::Open => return false,
-        Phase::Pair => return false,
-        Phase::Name => return false,
-        Phase::Tens => return false,
-        Phase::Units => return false,
-        Phase::Gap => return false,
-        Phase::Value => return false,
-        Phase::Base => return false,
-        Phase::Hex => return false,
-        Phase::Binary => return false,
-        Phase::Close => return false,
+    if here.off {
+        return Reached::Stopped(here.place);
     }
+    if here.place < reply.len() {
+        return Reached::Stopped(here.place);
+    }
+    Reached::Whole
+}
+
+// Anything may follow.
+fn unread(here: Here) -> Reached
+    ensures { λ r. ⌜ placeOf r ≡ cond (here .off) (some (here .place)) none ⌝ }
+{
+    if here.off {
+        return Reached::Stopped(here.place);
+    }
+    Reached::Whole
+}
+
+// Behind `unsat`.
+fn claimed(reply: &[u8], here: Here) -> Reached
+    ensures { λ r. ⌜ placeOf r ≡ stopFrom claim (now (reply .entry)) here ⌝ }
+{
+    if here.place < reply.len() {
+        return unread(one_blank(reply, here));
+    }
+    ended(reply, here)
+}
+
+fn unsat(reply: &[u8], here: Here) -> Reached
+    ensures { λ r. ⌜ placeOf r ≡ stopFrom (exact (ascii "unsat") claim) (now (reply .entry)) here ⌝ }
+{
+    claimed(reply, text(reply, here, &UNSAT))
+}
+
+fn sat(reply: &[u8], here: Here, count: usize) -> Reached
+    ensures { λ r. ⌜ placeOf r ≡ stopFrom (exact (ascii "sat") (listed (replicate count anyValue))) (now (reply .entry)) here ⌝ }
+{
+    ended(reply, list(reply, text(reply, here, &SAT), count))
 }
 
 // How far the bytes begin a reply for `count` variables.
 pub fn reach(reply: &[u8], count: usize) -> Reached
     ensures { λ r. ⌜ Answers count (now (reply .entry)) r ⌝ }
 {
-    let mut q = State {
-        phase: Phase::Front,
-        variable: 0,
-        left: 0,
+    let start = Here {
+        place: 0,
+        off: false,
     };
-    let mut k: usize = 0;
-    while k < reply.len() {
-        let phase = q.phase;
-        let next = step(count, phase, q.variable, q.left, reply[k]);
-        let Next::On(r) = next else {
-            return Reached::Stopped(k);
-        };
-        q = r;
-        k += 1;
+    let word = blanks(reply, start);
+    if peek(reply, word) == b'u' {
+        return unsat(reply, word);
     }
-    let phase = q.phase;
-    if may_end(phase) {
-        return Reached::Whole;
-    }
-    Reached::Stopped(k)
+    sat(reply, word, count)
 }
 
 // The first word begins as `sat` does.
 pub fn says_sat(reply: &[u8]) -> bool
     ensures { λ r. ⌜ r ≡ satFirst (now (reply .entry)) ⌝ }
 {
-    let mut k: usize = 0;
-    while k < reply.len() {
-        if blank(reply[k]) {
-            k += 1;
-        } else {
-            return reply[k] == 115;
-        }
-    }
-    false
+    let start = Here {
+        place: 0,
+        off: false,
+    };
+    b's' == peek(reply, blanks(reply, start))
 }
