@@ -20,8 +20,7 @@ use Rattle.layout.specs.Parts.{variableCount, ruleIn}
 use Rattle.layout.proofs.PartLaws.{variable-total}
 use Rattle.reading.specs.Cascade.{refusalOf}
 use Rattle.grammar.specs.Begins.{Leaves}
-use Rattle.grammar.proofs.Machines.{stop}
-use Rattle.grammar.proofs.Deriving.{derive, mayEnd}
+use Rattle.grammar.specs.Stops.{derive, mayEnd, stops}
 use Rattle.grammar.proofs.MachineLaws.{accepts-exactly, stops-exactly}
 use Rattle.grammar.proofs.PatternLaws.{pattern-reads}
 use Rattle.replies.specs.Replies.{replyFor, Reply}
@@ -79,9 +78,9 @@ module _ (s reply : List ℕ) where
 
 -- ---- and there is one
 fits-or-leaves : (v : ℕ) (s : List ℕ) → Reply v s ⊎ ((p : ℕ) × Leaves (Reply v) s p)
-fits-or-leaves v s = go (stop derive mayEnd (replyFor v) 0 s) refl
+fits-or-leaves v s = go (stops (replyFor v) 0 s) refl
   where
-    go : (o : Option ℕ) → stop derive mayEnd (replyFor v) 0 s ≡ o → Reply v s ⊎ ((p : ℕ) × Leaves (Reply v) s p)
+    go : (o : Option ℕ) → stops (replyFor v) 0 s ≡ o → Reply v s ⊎ ((p : ℕ) × Leaves (Reply v) s p)
     go none e = inl (accepts-exactly derive mayEnd pattern-reads (definite-for v) s .0 e)
     go (some p) e = inr (p, stops-exactly derive mayEnd pattern-reads (definite-for v) s p .0 e)
 

@@ -1,8 +1,8 @@
 -- The rows of a reply: what they answer where the sheet is refused, where the reply leaves the grammar, where it claims unsat, and where it spells a case. Assumes nothing.
 use Prim.Native.Nat.{ℕ, suc}
-use mathlib.Core.Path.{_≡_, sym, ap, _∙_}
+use mathlib.Core.Path.{_≡_, sym, _∙_}
 use mathlib.Core.Bool.{true, not, true≢false}
-use mathlib.Core.List.{List, map}
+use mathlib.Core.List.{List}
 use mathlib.Core.Option.{Option, none, some}
 use native.Mathlib.Omega.{arith}
 use borrow.Author.Tests.{not-true, not-false}
@@ -12,7 +12,6 @@ use Rattle.lists.specs.First.{_otherwise_}
 use Rattle.lists.proofs.Decided.{Decides, decides-and, decides-as, denied}
 use Rattle.numbers.specs.declared.Range.{Range}
 use Rattle.numbers.specs.Ranges.{In}
-use Rattle.numbers.specs.Two.{dec}
 use Rattle.numbers.proofs.OrderTests.{decides-leZ}
 use Rattle.refusals.specs.declared.Refusal.{Refusal}
 use Rattle.refusals.specs.Said.{unless}
@@ -25,10 +24,10 @@ use Rattle.reading.specs.Cascade.{refusalOf}
 use Rattle.reading.proofs.Exact.{sheet-exactly}
 use Rattle.grammar.specs.Begins.{Leaves}
 use Rattle.grammar.proofs.BeginLaws.{place-inside, no-member, one-place}
-use Rattle.replies.specs.Replies.{valueBits, Reply}
+use Rattle.replies.specs.Replies.{Reply}
 use Rattle.replies.specs.Says.{Claims, SpellsCase, unsat, sat}
 use Rattle.replies.proofs.SaysLaws.{says-reply}
-use Rattle.replies.proofs.OnceLaws.{one-setting}
+use Rattle.replies.proofs.Unique.{one-case}
 use Rattle.replies.proofs.SatLaws.{not-both}
 use Rattle.trial.specs.Rows.{Row11, Row12, Row13, replyRows}
 use Rattle.trial.specs.Trying.{isIn, valueRefusal, valuesRefusal, caseRefusal}
@@ -37,10 +36,6 @@ use Rattle.trial.proofs.Each.{each-none, each-lowest}
 pub decides-in : (d : Range) (x : ℤ) → Decides (isIn d x) (In d x)
 unfolding isIn
 decides-in d x = decides-as (decides-and (decides-leZ (d .low) x) (decides-leZ x (d .high))) (λ p. record { low = p .0; high = p .1 }) (λ p. (p .low, p .high))
-
--- a reply spells one case
-pub one-case : {v : ℕ} {s : List ℕ} {c d : List ℤ} → SpellsCase v s c → SpellsCase v s d → c ≡ d
-one-case x y = sym (x .case) ∙ ap (map (dec valueBits)) (one-setting (x .spelled) (y .spelled)) ∙ y .case
 
 pub case-fits : {v : ℕ} {s : List ℕ} {c : List ℤ} → SpellsCase v s c → Reply v s
 case-fits {v} {s} x = says-reply v s (sat (x .setting) (x .spelled))

@@ -1,7 +1,7 @@
 -- The steps of the functions that try a reply's case: what each finds, and what it makes of the whole answer. Assumes nothing.
 use Prim.Native.Nat.{ℕ, _≤_, _<_}
 use mathlib.Core.Path.{_≡_, refl, sym, ap, subst, _∙_}
-use mathlib.Core.Bool.{Bool, true, false, not, true≢false}
+use mathlib.Core.Bool.{Bool, true, false, not}
 use mathlib.Core.List.{List, _++_}
 use mathlib.Core.Option.{none, some}
 use native.Mathlib.Omega.{arith}
@@ -30,12 +30,11 @@ use Rattle.evaluator.specs.Standing.{Standing}
 use Rattle.cases.specs.Ready.{CaseFits}
 use Rattle.grammar.specs.Begins.{Leaves}
 use Rattle.replies.specs.Replies.{Reply}
-use Rattle.replies.specs.Says.{Claims, SpellsCase, Says, unsat, sat}
+use Rattle.replies.specs.Says.{Claims, SpellsCase}
 use Rattle.replies.specs.declared.Reached.{Reached}
 use Rattle.replies.specs.declared.Reached.the-variants.{Whole, Stopped}
 use Rattle.replies.specs.Answers.{Answers, satFirst}
-use Rattle.replies.proofs.SaysLaws.{reply-says}
-use Rattle.replies.proofs.SatLaws.{setting-first, sat-exactly}
+use Rattle.replies.proofs.SatLaws.{sat-exactly, unsat-exactly}
 use Rattle.digits.specs.Ready.{Numbered}
 use Rattle.digits.proofs.DigitLaws.{setting-based, digits-number}
 use Rattle.digits.proofs.NumberLaws.{case-long}
@@ -87,11 +86,7 @@ module _ (s reply : List ℕ) (h : Reply (variableCount s) reply) {b : Bool} (e 
       record { accepted = a; spelled = record { few = accepted-inside s a .1; setting = w .0; spelled = w .1 } }
 
   pub claims-unsat : b ≡ false → Claims reply
-  claims-unsat t = go (reply-says (variableCount s) reply h)
-    where
-      go : Says (variableCount s) reply → Claims reply
-      go (unsat f) = f
-      go (sat setting x) = absurd (true≢false (sym (setting-first x) ∙ sym e ∙ t))
+  claims-unsat t = unsat-exactly (variableCount s) reply h .0 (sym e ∙ t)
 
 -- ---- the row of a reply's case
 module _ (s : List ℕ) (e : refusalOf s ≡ none) {reply : List ℕ} {v : ℕ} (ev : v ≡ variableCount s) {numbers : List ℤ} (w : Numbered v reply (replicate 16 (pos 0)) numbers) where

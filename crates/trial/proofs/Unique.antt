@@ -10,11 +10,11 @@ use Rattle.lists.specs.Part.{SamePart}
 use Rattle.lists.proofs.PartLaws.{where-once}
 use Rattle.layout.specs.Parts.{variableCount}
 use Rattle.replies.proofs.SatLaws.{not-both}
+use Rattle.replies.proofs.Unique.{one-case}
 use Rattle.trial.specs.declared.Replied.{Replied}
 use Rattle.trial.specs.declared.Replied.the-variants.{Unsat, Fails, Refused}
 use Rattle.trial.specs.Replies.{repliedSaid, Replies, CaseRoom, RepliesInto}
 use Rattle.trial.specs.Digits.{DigitsGiven, DigitsPart, DigitsSpan}
-use Rattle.trial.proofs.RowLaws.{one-case}
 use Rattle.trial.proofs.Answers.{exactly-once}
 use Rattle.trial.proofs.GivenLaws.{given-decided}
 
