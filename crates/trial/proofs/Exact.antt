@@ -1,15 +1,13 @@
--- A refusal of a reply has a number from 1 to 13, and a place below the most nodes or inside the reply. Assumes nothing.
-use Prim.Native.Nat.{ℕ, suc, _/_, _≤_, max}
+-- A refusal of a reply has a number, and a place below the most nodes or inside the reply. Assumes nothing.
+use Prim.Native.Nat.{ℕ, suc, _≤_, max}
 use mathlib.Core.Path.{refl}
 use mathlib.Core.List.{List}
 use native.Mathlib.Omega.{arith}
 use lib.ListN.{length}
-use Rattle.layout.specs.Limits.{blockBytes, mostNodes}
-use Rattle.layout.specs.Parts.{nodeCount, variableCount}
+use Rattle.layout.specs.Limits.{mostNodes}
+use Rattle.layout.specs.Parts.{variableCount}
 use Rattle.refusals.specs.declared.Refusal.{Refusal}
-use Rattle.refusals.specs.Rows.{row, _then_}
 use Rattle.refusals.proofs.BoundLaws.{Bounded, bounded-row, bounded-then, bounded-each, bounded-answer}
-use Rattle.reading.specs.Rows.{Row1, Row2, Row3, Row4, Row5, Row6, Row7, Row8, GoalSubtree, GoalType, sheetRows}
 use Rattle.reading.proofs.Exact.{sheet-exactly}
 use Rattle.reading.proofs.Bounds.{sheet-small}
 use Rattle.trial.specs.declared.Replied.the-variants.{Refused}
@@ -20,34 +18,15 @@ use Rattle.trial.proofs.TryLaws.{accepted-inside}
 -- what a refusal's number and place can be, for a reply of so many bytes
 pub record Near (bytes number place : ℕ) : Type 0 where
   pub some-number : 1 ≤ number
-  pub low-number : number ≤ 13
   pub low-place : place ≤ max mostNodes bytes
 
-abbrev Numbered : ℕ → ℕ → Type 0
-Numbered number place = number ≤ 8
-
-numbered : {n p : ℕ} (C : Type 0) → n ≤ 8 → Bounded Numbered (row n p C)
-numbered {n} {p} C h = bounded-row n p C (λ c. h)
-
-module _ (s : List ℕ) where
-  sheet-numbered : Bounded Numbered (sheetRows s)
-  unfolding sheetRows
-  sheet-numbered =
-      bounded-then (numbered (Row1 s) (omega arith))
-      (λ a. bounded-then (bounded-each (length s / blockBytes) 0 (λ k i l. numbered (Row2 s k) (omega arith)))
-      (λ b. bounded-then (numbered (Row3 s) (omega arith))
-      (λ c. bounded-then (numbered (Row4 s) (omega arith))
-      (λ d. bounded-then (bounded-each (variableCount s) 0 (λ k i l. numbered (Row5 s k) (omega arith)))
-      (λ e. bounded-then (bounded-each (nodeCount s) 0 (λ k i l. bounded-then (numbered (Row6 s k) (omega arith)) (λ x. bounded-then (numbered (Row7 s k) (omega arith)) (λ y. numbered (Row8 s k) (omega arith)))))
-      (λ f. bounded-then (numbered (GoalSubtree s) (omega arith)) (λ g. numbered (GoalType s) (omega arith))))))))
-
-  module _ (reply : List ℕ) where
-    rows-near : Bounded (Near (length reply)) (replyRows s reply)
-    rows-near =
-        bounded-then (record { keeps = λ r a. record { some-number = sheet-small s .keeps r a .some-number; low-number = omega (arith, sheet-numbered .keeps r a); low-place = omega (arith, sheet-small s .keeps r a .low-place) } })
-        (λ a. bounded-then (bounded-each (suc (length reply)) 0 (λ k i l. bounded-row 11 k (Row11 s reply k) (λ h. record { some-number = omega arith; low-number = omega arith; low-place = omega arith })))
-        (λ b. bounded-then (bounded-each (variableCount s) 0 (λ k i l. bounded-row 12 k (Row12 s reply k) (λ h. record { some-number = omega arith; low-number = omega arith; low-place = omega (arith, accepted-inside s (sheet-exactly s .passed .1 a) .1) })))
-        (λ c. bounded-row 13 0 (Row13 s reply) (λ h. record { some-number = omega arith; low-number = omega arith; low-place = omega arith }))))
+module _ (s reply : List ℕ) where
+  rows-near : Bounded (Near (length reply)) (replyRows s reply)
+  rows-near =
+      bounded-then (record { keeps = λ r a. record { some-number = sheet-small s .keeps r a .some-number; low-place = omega (arith, sheet-small s .keeps r a .low-place) } })
+      (λ a. bounded-then (bounded-each (suc (length reply)) 0 (λ k i l. bounded-row 11 k (Row11 s reply k) (λ h. record { some-number = omega arith; low-place = omega arith })))
+      (λ b. bounded-then (bounded-each (variableCount s) 0 (λ k i l. bounded-row 12 k (Row12 s reply k) (λ h. record { some-number = omega arith; low-place = omega (arith, accepted-inside s (sheet-exactly s .passed .1 a) .1) })))
+      (λ c. bounded-row 13 0 (Row13 s reply) (λ h. record { some-number = omega arith; low-place = omega arith }))))
 
 pub reply-near : {s reply : List ℕ} {r : Refusal} → Replies s reply (Refused r) → Near (length reply) (r .number) (r .place)
 reply-near {s} {reply} h = bounded-answer (rows-near s reply) (h .refusals) refl

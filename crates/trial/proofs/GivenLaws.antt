@@ -1,15 +1,18 @@
 -- A variable's digits are given or not; where they are, they lie inside the reply. Assumes nothing.
 use Prim.Native.Nat.{ℕ, _+_, _≤_, _<_}
 use mathlib.Core.Path.{_≡_, refl}
+use mathlib.Core.Bool.{Bool, true, false, cond}
 use mathlib.Core.List.{List}
 use mathlib.Core.Option.{none}
 use native.Mathlib.Decide.{decLt}
 use native.Mathlib.Omega.{arith}
 use denote.Ref.{RefT}
-use lib.ListN.{length}
+use lib.Dec.{eqb}
+use lib.ListN.{length, getD}
 use Rattle.lists.specs.Part.{PartAt}
 use Rattle.layout.specs.Parts.{variableCount}
 use Rattle.reading.specs.Cascade.{refusalOf}
+use Rattle.replies.specs.Replies.{hexDigits, binaryDigits}
 use Rattle.replies.proofs.SatLaws.{not-both}
 use Rattle.digits.specs.Hashes.{placeBehind, digitsPlace, digitsSize}
 use Rattle.digits.specs.Ready.{Based}
@@ -62,3 +65,14 @@ module _ (s reply : List ℕ) where
 -- the part by its span
 pub span-part : {s : List ℕ} {i : ℕ} {reply part : RefT (List ℕ)} {start size : ℕ} → DigitsSpan s (reply .now) i start size → PartAt reply part start size → DigitsPart s reply i part
 span-part h p = record { given = λ g. let w = h .given g in rw (w .0, w .1) at p; absent = λ n. let w = h .absent n in rw (w .0, w .1) at p }
+
+-- ---- digits that are given: some bytes, a few, inside the reply
+size-by : (b : Bool) → (1 ≤ cond b hexDigits binaryDigits) × (cond b hexDigits binaryDigits ≤ binaryDigits)
+size-by true = (omega arith, omega arith)
+size-by false = (omega arith, omega arith)
+
+pub digits-few : (i : ℕ) (reply : List ℕ) → digitsSize i reply ≤ binaryDigits
+digits-few i reply = size-by (eqb (getD reply (placeBehind i 0 reply) 0) 120) .1
+
+pub digits-inside : {s reply : List ℕ} {i : ℕ} → DigitsGiven s reply i → (1 ≤ digitsSize i reply) × (digitsPlace i reply + digitsSize i reply ≤ length reply)
+digits-inside {s} {reply} {i} g = (size-by (eqb (getD reply (placeBehind i 0 reply) 0) 120) .0, omega (arith, given-based s reply i g .behind))
