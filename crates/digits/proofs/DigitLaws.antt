@@ -23,7 +23,7 @@ use Rattle.replies.specs.Says.{Numeral, hexadecimal, binary, numberIn, Sixteen,
 use Rattle.replies.proofs.NumberLaws.{Small, setting-small, setting-length}
 use Rattle.replies.proofs.HashLaws.{behindHash, Hashes, no-more, other, hash, spells-hashes}
 use Rattle.digits.specs.Hashes.{placeBehind, sizeAt, baseAt, numberAt}
-use Rattle.digits.specs.Ready.{Few, Based}
+use Rattle.digits.specs.Ready.{SixteenBits, Based}
 use Rattle.digits.proofs.HashScan.{pass, stop-here, next-hash}
 
 -- ---- behind a hash
@@ -119,7 +119,7 @@ module _ (s : List ℕ) (p : ℕ) {base : ℕ} (e : base ≡ baseAt s p) {part :
   pub part-number : numberOf base (map digitValue part) ≡ numberAt s p
   part-number = rw (e, f)
 
-  pub few-there : Based s p → Few base part
+  pub few-there : Based s p → SixteenBits base part
   few-there h = record { some-base = rw e (go (eqb (getD s p 0) 120)); small = rw part-number (h .small) }
     where
       go : (b : Bool) → 1 ≤ cond b 16 2

@@ -23,28 +23,29 @@ pub record Near (bytes number place : ℕ) : Type 0 where
   pub low-number : number ≤ 13
   pub low-place : place ≤ max mostNodes bytes
 
-abbrev Numbered : ℕ → ℕ → Type 0
-Numbered number place = number ≤ 8
+-- a sheet's own
+abbrev LowNumber : ℕ → ℕ → Type 0
+LowNumber number place = number ≤ 8
 
-numbered : {n p : ℕ} (C : Type 0) → n ≤ 8 → Bounded Numbered (row n p C)
-numbered {n} {p} C h = bounded-row n p C (λ c. h)
+low : {n p : ℕ} (C : Type 0) → n ≤ 8 → Bounded LowNumber (row n p C)
+low {n} {p} C h = bounded-row n p C (λ c. h)
 
 module _ (s : List ℕ) where
-  sheet-numbered : Bounded Numbered (sheetRows s)
+  sheet-low : Bounded LowNumber (sheetRows s)
   unfolding sheetRows
-  sheet-numbered =
-      bounded-then (numbered (Row1 s) (omega arith))
-      (λ a. bounded-then (bounded-each (length s / blockBytes) 0 (λ k i l. numbered (Row2 s k) (omega arith)))
-      (λ b. bounded-then (numbered (Row3 s) (omega arith))
-      (λ c. bounded-then (numbered (Row4 s) (omega arith))
-      (λ d. bounded-then (bounded-each (variableCount s) 0 (λ k i l. numbered (Row5 s k) (omega arith)))
-      (λ e. bounded-then (bounded-each (nodeCount s) 0 (λ k i l. bounded-then (numbered (Row6 s k) (omega arith)) (λ x. bounded-then (numbered (Row7 s k) (omega arith)) (λ y. numbered (Row8 s k) (omega arith)))))
-      (λ f. bounded-then (numbered (GoalSubtree s) (omega arith)) (λ g. numbered (GoalType s) (omega arith))))))))
+  sheet-low =
+      bounded-then (low (Row1 s) (omega arith))
+      (λ a. bounded-then (bounded-each (length s / blockBytes) 0 (λ k i l. low (Row2 s k) (omega arith)))
+      (λ b. bounded-then (low (Row3 s) (omega arith))
+      (λ c. bounded-then (low (Row4 s) (omega arith))
+      (λ d. bounded-then (bounded-each (variableCount s) 0 (λ k i l. low (Row5 s k) (omega arith)))
+      (λ e. bounded-then (bounded-each (nodeCount s) 0 (λ k i l. bounded-then (low (Row6 s k) (omega arith)) (λ x. bounded-then (low (Row7 s k) (omega arith)) (λ y. low (Row8 s k) (omega arith)))))
+      (λ f. bounded-then (low (GoalSubtree s) (omega arith)) (λ g. low (GoalType s) (omega arith))))))))
 
   module _ (reply : List ℕ) where
     rows-near : Bounded (Near (length reply)) (replyRows s reply)
     rows-near =
-        bounded-then (record { keeps = λ r a. record { some-number = sheet-small s .keeps r a .some-number; low-number = omega (arith, sheet-numbered .keeps r a); low-place = omega (arith, sheet-small s .keeps r a .low-place) } })
+        bounded-then (record { keeps = λ r a. record { some-number = sheet-small s .keeps r a .some-number; low-number = omega (arith, sheet-low .keeps r a); low-place = omega (arith, sheet-small s .keeps r a .low-place) } })
         (λ a. bounded-then (bounded-each (suc (length reply)) 0 (λ k i l. bounded-row 11 k (Row11 s reply k) (λ h. record { some-number = omega arith; low-number = omega arith; low-place = omega arith })))
         (λ b. bounded-then (bounded-each (variableCount s) 0 (λ k i l. bounded-row 12 k (Row12 s reply k) (λ h. record { some-number = omega arith; low-number = omega arith; low-place = omega (arith, accepted-inside s (sheet-exactly s .passed .1 a) .1) })))
         (λ c. bounded-row 13 0 (Row13 s reply) (λ h. record { some-number = omega arith; low-number = omega arith; low-place = omega arith }))))

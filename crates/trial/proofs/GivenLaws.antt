@@ -1,15 +1,18 @@
 -- A variable's digits are given or not; where they are, they lie inside the reply. Assumes nothing.
 use Prim.Native.Nat.{ℕ, _+_, _≤_, _<_}
 use mathlib.Core.Path.{_≡_, refl}
+use mathlib.Core.Bool.{Bool, true, false, cond}
 use mathlib.Core.List.{List}
 use mathlib.Core.Option.{none}
 use native.Mathlib.Decide.{decLt}
 use native.Mathlib.Omega.{arith}
 use denote.Ref.{RefT}
-use lib.ListN.{length}
+use lib.Dec.{eqb}
+use lib.ListN.{length, getD}
 use Rattle.lists.specs.Part.{PartAt}
 use Rattle.layout.specs.Parts.{variableCount}
 use Rattle.reading.specs.Cascade.{refusalOf}
+use Rattle.replies.specs.Replies.{hexDigits, binaryDigits}
 use Rattle.replies.proofs.SatLaws.{not-both}
 use Rattle.digits.specs.Hashes.{placeBehind, digitsPlace, digitsSize}
 use Rattle.digits.specs.Ready.{Based}
@@ -37,6 +40,14 @@ module _ (s reply : List ℕ) where
     pub given-based : DigitsGiven s reply i → Based reply (placeBehind i 0 reply)
     given-based g = setting-based (g .0 .told .1 .spelled) i (g .1)
 
+    -- there is a digit, and the last one lies inside the reply
+    pub given-inside : DigitsGiven s reply i → (1 ≤ digitsSize i reply) × (digitsPlace i reply + digitsSize i reply ≤ length reply)
+    given-inside g = (go (eqb (getD reply (placeBehind i 0 reply) 0) 120), given-based g .behind)
+      where
+        go : (b : Bool) → 1 ≤ cond b hexDigits binaryDigits
+        go true = omega arith
+        go false = omega arith
+
     -- ---- the span
     pub given-span : {start size : ℕ} → DigitsGiven s reply i → start ≡ digitsPlace i reply → size ≡ digitsSize i reply → DigitsSpan s reply i start size
     given-span g e f = record { given = λ k. (e, f); absent = λ n. absurd (n g) }
@@ -48,7 +59,7 @@ module _ (s reply : List ℕ) where
     span-inside {start} {size} h = go given-decided
       where
         go : Dec (DigitsGiven s reply i) → start + size ≤ length reply
-        go (yes g) = let w = h .given g in omega (arith, given-based g .behind)
+        go (yes g) = let w = h .given g in omega (arith, given-inside g .1)
         go (no n) = let w = h .absent n in omega arith
 
   -- what is no failing case gives nothing
