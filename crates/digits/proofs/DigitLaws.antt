@@ -154,7 +154,7 @@ module _ {v : ℕ} {s t : List ℕ} (x : SpellsSetting v s t) (i : ℕ) (l : i <
       digits-at s (placeBehind i 0 s) numeral of-sixteen (behind-hash (x .numerals) s i (hexadecimal []) (x .sixteen) (x .spelled) (omega arith))
 
   -- behind hash number i stands the number of variable i
-  pub setting-number : numberAt s (placeBehind i 0 s) ≡ getD t i 0
+  setting-number : numberAt s (placeBehind i 0 s) ≡ getD t i 0
   unfolding numeral
   setting-number = there .number ∙ sym (List·getD-map numberIn (x .numerals) i (hexadecimal [])) ∙ ap (λ (l : List ℕ). getD l i 0) (x .numbers)
 
