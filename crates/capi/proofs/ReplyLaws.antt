@@ -17,7 +17,7 @@ use Rattle.trial.specs.declared.Replied.the-variants.{Unsat, Fails, Refused}
 use Rattle.trial.specs.Replies.{Replies}
 use Rattle.trial.specs.Digits.{DigitsGiven, DigitsPart, DigitsSpan}
 use Rattle.trial.proofs.Exact.{reply-near}
-use Rattle.trial.proofs.GivenLaws.{given-decided, digits-inside, digits-few}
+use Rattle.trial.proofs.GivenLaws.{given-decided, digits-few, given-inside}
 use Rattle.capi.specs.Codes.{refusalCode, codeSaid, tellable, replyCode, ReplyCodes, DigitsCodes}
 use Rattle.capi.proofs.CodeLaws.{code-tells}
 
@@ -74,7 +74,7 @@ module _ {s reply : List ℕ} {i start size : ℕ} (h : DigitsSpan s reply i sta
   digits-size = go (given-decided s reply i)
     where
       go : Dec (DigitsGiven s reply i) → size ≤ binaryDigits
-      go (yes g) = let e = h .given g .1 in omega (arith, digits-few i reply)
+      go (yes g) = let e = h .given g .1 in omega (arith, digits-few s reply i)
       go (no n) = let e = h .absent n .1 in omega arith
 
   pub digits-beyond : 2 ^ 48 ≤ start → DigitsCodes s reply i 0
@@ -87,11 +87,11 @@ digits-tell {s} {reply} {part} {i} {r} p c l = go (given-decided s (reply .now) 
   where
     go : Dec (DigitsGiven s (reply .now) i) → (length (part .now) ≡ r % 65536) × (part .ptr .1 ≡ reply .ptr .1 + r / 65536)
     go (yes g) =
-        let d = digits-inside g in
+        let d = given-inside s (reply .now) i g in
         let e = c .given g l in
         let n = part-size (p .given g) (d .1) in
         let w = p .given g .place in
-        let k = digits-few i (reply .now) in
+        let k = digits-few s (reply .now) i in
         (omega arith, omega arith)
     go (no f) =
         let e = c .absent (λ g k. f g) in

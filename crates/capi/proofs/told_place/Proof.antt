@@ -9,7 +9,7 @@ returns : tie.Need-returns
 returns c = low-place _ (c .if1 .taken)
 
 returns-2 : tie.Need-returns-2
-returns-2 c = high-place _ (omega (arith, c .if1 .left))
+returns-2 c = high-place (c .before .args .place) (omega (arith, c .if1 .left))
 
 pub told-place-spec : {M : Type 1} → statement M
 told-place-spec = tie.close (tie.spec returns (λ c. search needs) returns-2)
