@@ -12,6 +12,7 @@
 
 mod accepted;
 mod alter;
+mod ask_edges;
 mod asked;
 mod at_once;
 mod bulk;
@@ -35,6 +36,14 @@ mod nodes;
 mod question;
 mod random;
 mod ranges;
+mod replies;
+mod reply_edges;
+mod reply_met;
+mod reply_questions;
+mod reply_required;
+mod reply_rewrites;
+mod reply_subjects;
+mod reply_text;
 mod required;
 mod script_edges;
 mod script_questions;
@@ -59,7 +68,7 @@ use trial::{Output, Part, PARTS};
 type Make = fn(&mut Random, &mut Output);
 
 /// The groups of each part; the first one of a part is small.
-const GROUPS: [(Part, &str, Make); 29] = [
+const GROUPS: [(Part, &str, Make); 45] = [
     (Part::Reading, "edge-cases", edges::make),
     (Part::Reading, "accepted", accepted::make),
     (Part::Reading, "refusal-1", whole_sheet::refusal_1),
@@ -89,6 +98,22 @@ const GROUPS: [(Part, &str, Make); 29] = [
     (Part::Script, "script-many-cases", scripts::many_cases),
     (Part::Script, "script-solvers", solver_sheets::make),
     (Part::Script, "script-refused-sheets", refused_sheets),
+    (Part::Ask, "ask-edge-cases", ask_edges::make),
+    (Part::Ask, "ask-any", scripts::any),
+    (Part::Ask, "ask-kinds", scripts::kinds),
+    (Part::Ask, "ask-long", scripts::long),
+    (Part::Ask, "ask-many-cases", scripts::many_cases),
+    (Part::Ask, "ask-solvers", solver_sheets::make),
+    (Part::Ask, "ask-refused-sheets", refused_sheets),
+    (Part::Replies, "replies-edge-cases", reply_edges::make),
+    (Part::Replies, "replies-spelled", replies::spelled),
+    (Part::Replies, "replies-damaged", replies::damaged),
+    (Part::Replies, "replies-every-byte", replies::every_byte),
+    (Part::Replies, "replies-long", replies::long),
+    (Part::Replies, "replies-unsat", replies::unsat),
+    (Part::Replies, "replies-rewritten", reply_rewrites::make),
+    (Part::Replies, "replies-others", replies::others),
+    (Part::Replies, "replies-refused-sheets", refused_sheets),
 ];
 
 /// Sheets refused with 1 to 8, put to the calls of another part.
