@@ -1,10 +1,11 @@
-/* Ragwashin's C interface: six calls on the bytes of a rule sheet.
+/* Ragwashin's C interface: nine calls on the bytes of a rule sheet, two of them also on those of a solver's reply.
 
    What a caller owes:
-   - A pointer is valid for its length: sheet_len bytes can be read at sheet, room_len bytes or numbers can be
-     written at room. With length 0 nothing is looked at, and any pointer will do, NULL too. A pointer to numbers
+   - A pointer is valid for its length: sheet_len bytes can be read at sheet, reply_len bytes at reply, room_len
+     bytes or numbers can be written at room. With length 0 nothing is looked at, and any pointer will do, NULL too. A pointer to numbers
      is aligned for them.
-   - The room lies apart from the sheet, and while a call runs nothing else writes to the sheet or uses the room.
+   - The room lies apart from the sheet, and while a call runs nothing else writes to the sheet or the reply, or
+     uses the room.
    - Calls keep nothing from one to the next and share no data: several threads may call at once, also with the
      same sheet, if each has a room of its own.
    - A call takes at most 32 KB of stack (32,768 bytes; measured, see README.md), no heap, and of the C library
@@ -15,7 +16,8 @@
 
    A call that refuses says so in one number: refusal * 2^48 + place. There are V variables and N nodes; the goal is
    the last node. Of several causes the first counts: 1 to 5 in order, each over the whole sheet; then, at one node
-   after the other, 6, 7, 8; then 6 and 7 of the goal as such; then 10; then 9.
+   after the other, 6, 7, 8; then 6 and 7 of the goal as such; then 10; then 9; for a reply 11, 12, 13 in place of 10
+   and 9.
 
    no.  what is wrong                                                                    place
    1    the length is zero, no multiple of 512, or over 4,608                            0
@@ -34,8 +36,13 @@
         the goal is a number                                                             N - 1
    8    a node's range goes below -32,768 or above 32,767                                the node
    9    the room is too short                                                            what is needed, in numbers
-                                                                                         (check) or bytes (script)
-   10   there are more than 1,000,000 cases (check and tally only)                       0 */
+                                                                                         (check) or bytes (script, ask)
+   10   there are more than 1,000,000 cases (check and tally only)                       0
+   11   the bytes are no reply to this sheet's script                                    the first byte that fits no
+                                                                                         reply, or the length where
+                                                                                         they stop short
+   12   a value in the reply leaves its variable's domain                                the lowest such variable
+   13   the reply's case doesn't make the rule fail                                      0 */
 #ifndef RAGWASHIN_H
 #define RAGWASHIN_H
 
@@ -45,7 +52,7 @@
 /* The longest sheet; a longer one is refused by its length, so that one byte more is all that need be read. */
 #define RAGWASHIN_MOST_SHEET_BYTES 4608
 
-/* Rooms that always do: for the check in numbers, for the script in bytes. */
+/* Rooms that always do: for the check in numbers, for either script in bytes. */
 #define RAGWASHIN_CHECK_ROOM 16
 #define RAGWASHIN_SCRIPT_ROOM 4096
 
@@ -74,6 +81,27 @@ uint64_t ragwashin_tally(const uint8_t *sheet, size_t sheet_len);
 /* Writes the script. The number of its bytes, which stand at the front of the room, or a refusal, 1 to 9; nothing else of the room is ever
    changed. */
 uint64_t ragwashin_script(const uint8_t *sheet, size_t sheet_len, uint8_t *room, size_t room_len);
+
+/* Writes the script that also asks for a failing case: it begins with (set-option :produce-models true), and where there are variables
+   (get-value (v0 v1 ...)) stands before (exit). The answer and the room as for ragwashin_script. */
+uint64_t ragwashin_ask(const uint8_t *sheet, size_t sheet_len, uint8_t *room, size_t room_len);
+
+/* Judges a solver's reply to that script. 0 where unsat is claimed, which is the solver's word alone; 1 where the reply gives a case, and the
+   case was tried and does make the rule fail; or a refusal, 1 to 8 or 11 to 13. A reply is 'unsat' before a blank or the end, and nothing
+   behind it is read; or 'sat' and, where there are variables, one list of pairs, each variable once, in order, with its value:
+
+       sat
+       ((v0 #x0000)
+        (v1 #b0000000000000001))
+
+   #x and four hexadecimal digits of either case, or #b and sixteen binary ones. Blanks are tab, line feed, carriage return and space; one at
+   least stands between two words, and nothing but blanks behind the list. A reply may be of any length and is read once, in time linear
+   in it; a place above 2^48 - 1 is told as 2^48 - 1. */
+uint64_t ragwashin_reply(const uint8_t *sheet, size_t sheet_len, const uint8_t *reply, size_t reply_len);
+
+/* A variable's digits alone, behind #x or #b: their offset in the reply times 65,536 plus their number; 0 unless the reply gives a case that
+   fails (ragwashin_reply gives 1), there is such a variable, and the offset is below 2^48. */
+uint64_t ragwashin_digits(const uint8_t *sheet, size_t sheet_len, const uint8_t *reply, size_t reply_len, uint16_t variable);
 
 #ifdef __cplusplus
 }

@@ -42,7 +42,7 @@ fn calls() -> String {
     SOLVERS.map(|s| format!("{} {}", s.0, s.1.join(" "))).join("; ")
 }
 
-/// The answers to check-sat, in order; none where the solver reports an error or leaves one unanswered.
+/// The answers to check-sat, in order; none where the solver reports an error or leaves a check-sat or get-value unanswered.
 fn ask(solver: &(&str, &[&str]), script: &[u8]) -> Option<Vec<bool>> {
     let child = Command::new(solver.0)
         .args(solver.1)
@@ -58,17 +58,31 @@ fn ask(solver: &(&str, &[&str]), script: &[u8]) -> Option<Vec<bool>> {
     });
     let out = child.wait_with_output().unwrap();
     feeder.join().unwrap();
-    let mut answers = Vec::new();
-    for line in String::from_utf8_lossy(&out.stdout).lines() {
-        match line {
-            "sat" => answers.push(true),
-            "unsat" => answers.push(false),
-            "" => {}
-            _ => return None,
+    let (answers, values) = answered(&words(&out.stdout))?;
+    let commands = words(script);
+    let count = |name: &str| commands.iter().filter(|w| w.1 == name).count();
+    if out.status.success() && answers.len() == count("check-sat") && values == count("get-value") { Some(answers) } else { None }
+}
+
+/// The answers to check-sat among a solver's words, and how many lists of values there are; none where it says anything else.
+fn answered(said: &[(usize, String)]) -> Option<(Vec<bool>, usize)> {
+    let (mut answers, mut values, mut depth) = (Vec::new(), 0, 0);
+    for (i, (_, word)) in said.iter().enumerate() {
+        match (depth, word.as_str()) {
+            (0, "sat") => answers.push(true),
+            (0, "unsat") => answers.push(false),
+            // a list of values begins with a pair: an error doesn't
+            (0, "(") if said.get(i + 1)?.1 == "(" => {
+                values += 1;
+                depth = 1;
+            }
+            (0, _) => return None,
+            (_, "(") => depth += 1,
+            (_, ")") => depth -= 1,
+            _ => {}
         }
     }
-    let asked = words(script).iter().filter(|w| w.1 == "check-sat").count();
-    if out.status.success() && answers.len() == asked { Some(answers) } else { None }
+    Some((answers, values))
 }
 
 /// What the solvers that accept the script answer; the others must refuse it.
@@ -436,21 +450,21 @@ fn words(s: &[u8]) -> Vec<(usize, String)> {
     out
 }
 
-/// The declared symbols with their widths (0: Bool), and where the last check-sat begins.
+/// The declared symbols with their widths (0: Bool), and where the last command, exit, begins.
 fn declared(s: &[u8]) -> (Vec<(String, u32)>, usize) {
     let w = words(s);
     let mut symbols = Vec::new();
-    let mut ask = 0;
+    let mut end = 0;
     for i in 0..w.len() {
         if w[i].1 == "declare-fun" {
             let width = if w[i + 4].1 == "(" { w[i + 7].1.parse().unwrap() } else { 0 };
             symbols.push((w[i + 1].1.clone(), width));
         }
-        if w[i].1 == "check-sat" {
-            ask = w[i - 1].0;
+        if w[i].1 == "exit" {
+            end = w[i - 1].0;
         }
     }
-    (symbols, ask)
+    (symbols, end)
 }
 
 fn latin1(text: &str) -> Vec<u8> {
@@ -486,12 +500,12 @@ fn judge(case: &Case) -> Judged {
     if !section.read {
         return Judged::Refused;
     }
-    let (symbols, ask_at) = declared(&case.script);
+    let (symbols, end) = declared(&case.script);
     let settings = if case.at.is_empty() { all_settings(&symbols) } else { case.at.clone() };
     if case.at.is_empty() && settings.len() > 64 {
         fail(&format!("more than 64 settings: name some by `at` lines\n{shown}"));
     }
-    let mut script = case.script[..ask_at].to_vec();
+    let mut script = case.script[..end].to_vec();
     for s in &settings {
         if s.len() != symbols.len() {
             fail(&format!("a setting of another length\n{shown}"));

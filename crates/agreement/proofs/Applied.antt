@@ -3,7 +3,7 @@
 use Prim.Native.Nat.{ℕ, _+_, _/_, _≤_, _<_}
 use mathlib.Core.Path.{_≡_, refl, sym, ap, _∙_}
 use mathlib.Core.Logic.{inl, ⊎-elim}
-use mathlib.Core.Bool.{Bool, true}
+use mathlib.Core.Bool.{Bool, true, false}
 use mathlib.Core.List.{List, [], _∷_, _++_, List·Memᴰ·head, List·Memᴰ·tail}
 use mathlib.Core.Option.{Option, none, some}
 use native.Mathlib.Omega.{arith}
@@ -16,6 +16,7 @@ use Rattle.lists.specs.Places.{allBelow}
 use Rattle.lists.specs.Course.{below, course}
 use Rattle.lists.specs.First.{first}
 use Rattle.numbers.specs.Two.{enc, dec}
+use Rattle.numbers.specs.Decimal.{decimalIn, decimal}
 use Rattle.numbers.specs.Bytes.{byteAt}
 use Rattle.numbers.specs.Ranges.{Narrow, In, _⋯_, isNarrow, hasNarrowEnds, leastOf, greatestOf}
 use Rattle.meaning.specs.Value.{value}
@@ -62,11 +63,9 @@ use Rattle.smtlib.specs.Values.{bitVec}
 use Rattle.smtlib.specs.Commands.{Declaration}
 use Rattle.smtlib.specs.Satisfaction.{declared, Satisfies}
 use Rattle.wording.specs.Sixteen.{hexDigit, hexText, literal, symbolText}
+use Rattle.wording.specs.Form.{sixteen}
+use Rattle.wording.specs.Binary.{inBits}
 use Rattle.wording.specs.Script.{script}
-use Rattle.forms.specs.Form.{scriptBy}
-use Rattle.forms.specs.Binary.{bitsLiteral}
-use Rattle.forms.proofs.Sexps.{width16}
-use Rattle.forms.proofs.Spelt.{width-spelled}
 use Rattle.writer.specs.Writes.{enoughRoom}
 use Rattle.agreement.specs.Starred.{sheetFrom, sheetA, sheet8, sheet11}
 use Rattle.agreement.specs.Statements.{Sheet, settingOf, Matched, SettingsListed}
@@ -103,7 +102,7 @@ accepting h f c = record { are-bytes = (true, true); refusals = (none, none); va
 
 pub record Computed (s other : List ℕ) (heldCases failedCases : ℕ) (firstCase : Option (List ℤ)) : Type 0 where
   pub facts : factsOf s other ≡ accepting heldCases failedCases firstCase
-  pub scripts : script (ruleIn s) ≡ script (ruleIn other)
+  pub scripts : (models : Bool) → script (sixteen models) (ruleIn s) ≡ script (sixteen models) (ruleIn other)
 
 module _ {s other : List ℕ} {heldCases failedCases : ℕ} {firstCase : Option (List ℤ)} (c : Computed s other heldCases failedCases firstCase) (few : heldCases + failedCases ≤ mostCases) where
   fact : {A : Type 0} (f : Facts → A) → f (factsOf s other) ≡ f (accepting heldCases failedCases firstCase)
@@ -143,25 +142,26 @@ module _ {s other : List ℕ} {heldCases failedCases : ℕ} {firstCase : Option 
   pub byte-changed : (j b : ℕ) → j < 1024 → b < 256 → (b ≡ byteAt s j → ⊥) → refusalOf (set s j b) ≡ some (record { number = 2; place = j / blockBytes })
   byte-changed j b h = one-byte-changed s sheet j b (rw (fact (λ (x : Facts). x .size)) h)
 
-  pub script-fits : length (script (ruleIn s)) ≤ enoughRoom
-  script-fits = room-enough s sheet
+  module _ (models : Bool) where
+    pub script-fits : length (script (sixteen models) (ruleIn s)) ≤ enoughRoom
+    script-fits = room-enough models s sheet
 
-  pub matches : Matched 16 symbolText (ruleIn s) (script (ruleIn s))
-  matches = match s sheet
+    pub matches : Matched (sixteen models) (ruleIn s)
+    matches = match models s sheet
 
-  -- in binary too
-  pub matches-in-bits : Matched 16 symbolText (ruleIn s) (scriptBy (bitsLiteral 16) symbolText width16 (ruleIn s))
-  matches-in-bits = match-in-bits width16 width-spelled (lit≤ tt) (ruleIn s) (allowed-sheet .0 .well-formed) (held-in-16 sheet)
+    -- in binary too
+    pub matches-in-bits : Matched (inBits models 16) (ruleIn s)
+    matches-in-bits = match-in-bits models 16 (lit≤ tt) (ruleIn s) (allowed-sheet .0 .well-formed) (held-in-16 sheet)
 
-  pub as-many : (ts : List (List ℕ)) × SettingsListed (script (ruleIn s)) ts × (failedCases ≡ length ts)
-  as-many = tally-agrees s sheet few-cases _ tally-is
+    pub as-many : (ts : List (List ℕ)) × SettingsListed (script (sixteen models) (ruleIn s)) ts × (failedCases ≡ length ts)
+    as-many = tally-agrees models s sheet few-cases _ tally-is
 
-  -- byte 10 is of variable 0's domain
-  pub same-size : length s ≡ length other
-  same-size = same-script s other sheet other-sheet (c .scripts) .0
+    -- byte 10 is of variable 0's domain
+    pub same-size : length s ≡ length other
+    same-size = same-script models s other sheet other-sheet (c .scripts models) .0
 
-  pub same-domain : byteAt s 10 ≡ byteAt other 10
-  same-domain = same-script s other sheet other-sheet (c .scripts) .1 10 (domain-nameless (variableCount s) 0 2 (omega arith))
+    pub same-domain : byteAt s 10 ≡ byteAt other 10
+    same-domain = same-script models s other sheet other-sheet (c .scripts models) .1 10 (domain-nameless (variableCount s) 0 2 (omega arith))
 
   -- ---- the check, with room for three numbers
   module _ (room : List ℤ) (three : length room ≡ 3) where
@@ -178,12 +178,12 @@ module _ {s other : List ℕ} {heldCases failedCases : ℕ} {firstCase : Option 
         record { answer = rw (d, f); room = rw (d, f) }
 
     -- a rule that fails: some setting satisfies the script
-    pub some-setting : {first : List ℤ} → firstCase ≡ some first → (t : List ℕ) × Satisfies (script (ruleIn s)) t
-    some-setting e = check-agrees s sheet few-cases room _ Fails (enough room three) (fails-as e) .0 .0 refl
+    pub some-setting : (models : Bool) {first : List ℤ} → firstCase ≡ some first → (t : List ℕ) × Satisfies (script (sixteen models) (ruleIn s)) t
+    some-setting models e = check-agrees models s sheet few-cases room _ Fails (enough room three) (fails-as e) .0 .0 refl
 
     -- and the case that the check names gives one
-    pub named-setting : {first : List ℤ} → (e : firstCase ≡ some first) → Satisfies (script (ruleIn s)) (settingOf 16 (take (variableCount s) (first ++ drop (length first) room)))
-    named-setting e = check-agrees s sheet few-cases room _ Fails (enough room three) (fails-as e) .1 refl
+    pub named-setting : (models : Bool) {first : List ℤ} → (e : firstCase ≡ some first) → Satisfies (script (sixteen models) (ruleIn s)) (settingOf 16 (take (variableCount s) (first ++ drop (length first) room)))
+    named-setting models e = check-agrees models s sheet few-cases room _ Fails (enough room three) (fails-as e) .1 refl
 
     -- which is the first that fails; the number past it stays
     pub first-named-as : {first : List ℤ} → firstCase ≡ some first → FirstFailing (ruleIn s) (take (variableCount s) (first ++ drop (length first) room))
@@ -193,9 +193,9 @@ module _ {s other : List ℕ} {heldCases failedCases : ℕ} {firstCase : Option 
     past-kept e = rooms-kept s .0 room _ Fails (fails-as e) .past
 
     -- a rule that holds: none does
-    pub no-setting : firstCase ≡ none → (t : List ℕ) → Satisfies (script (ruleIn s)) t → ⊥
-    no-setting e t h =
-        let d : Holds ≡ Fails = check-agrees s sheet few-cases room room Holds (enough room three) (holds-as e) .0 .1 (t, h) in
+    pub no-setting : (models : Bool) → firstCase ≡ none → (t : List ℕ) → Satisfies (script (sixteen models) (ruleIn s)) t → ⊥
+    no-setting models e t h =
+        let d : Holds ≡ Fails = check-agrees models s sheet few-cases room room Holds (enough room three) (holds-as e) .0 .1 (t, h) in
         let z : _≡_ {A = ℕ} 0 1 = cc in
         omega arith
 
@@ -210,8 +210,8 @@ abbrev pub sheet11-renamed : List ℕ
 sheet11-renamed = sheetFrom "0100 0500 02" ("fdff 0200 01 00 70" ∷ "fcff 0500 01 00 71" ∷ []) "0e6e" ("1100 0000" ∷ "1100 0100" ∷ "1500 0000 0100" ∷ "1000 0000 0000 0000 0c00" ∷ "0a00 0200 0300" ∷ []) "bc0d"
 
 pub computed : Computed sheetA sheetB 2 2 (some (pos 0 ∷ pos 1 ∷ [])) × Computed sheet11 sheet11-renamed 60 0 none
-unfolding value sizeOf casesOf holds failures firstFailure held failed treeAt allBelow below course first enc dec isNarrow hasNarrowEnds leastOf greatestOf find kindOf weighted checkOf blockRight startAt ofTree ofNode lengthRight early zeros countsRight tailClear outsideClear header isLetter isNameByte allNameBytes nameRight sameBytes variableRight fresh findingOf rightlyPlaced typed nodeRefusal nodes refusalOf hexDigit hexText literal symbolText script
-computed = (record { facts = refl; scripts = refl }, record { facts = refl; scripts = refl })
+unfolding value sizeOf casesOf holds failures firstFailure held failed treeAt allBelow below course first enc dec isNarrow hasNarrowEnds leastOf greatestOf find kindOf weighted checkOf blockRight startAt ofTree ofNode lengthRight early zeros countsRight tailClear outsideClear header isLetter isNameByte allNameBytes nameRight sameBytes variableRight fresh findingOf rightlyPlaced typed nodeRefusal nodes refusalOf hexDigit hexText literal symbolText decimalIn decimal script
+computed = (record { facts = refl; scripts = λ m. elim m [ true ↦ refl | false ↦ refl ] }, record { facts = refl; scripts = λ m. elim m [ true ↦ refl | false ↦ refl ] })
 
 abbrev computedA : Computed sheetA sheetB 2 2 (some (pos 0 ∷ pos 1 ∷ []))
 computedA = computed .0
@@ -223,12 +223,12 @@ computed11 = computed .1
 abbrev three : List ℤ
 three = pos 7 ∷ negsuc 7 ∷ pos 9 ∷ []
 
-pub satisfiable-A : (t : List ℕ) × Satisfies (script (ruleIn sheetA)) t
-satisfiable-A = some-setting computedA (lit≤ tt) three refl refl
+pub satisfiable-A : (models : Bool) → (t : List ℕ) × Satisfies (script (sixteen models) (ruleIn sheetA)) t
+satisfiable-A models = some-setting computedA (lit≤ tt) three refl models refl
 
-pub named-A : Satisfies (script (ruleIn sheetA)) (0 ∷ 1 ∷ [])
+pub named-A : (models : Bool) → Satisfies (script (sixteen models) (ruleIn sheetA)) (0 ∷ 1 ∷ [])
 unfolding enc
-named-A = named-setting computedA (lit≤ tt) three refl refl
+named-A models = named-setting computedA (lit≤ tt) three refl models refl
 
 pub first-A : FirstFailing (ruleIn sheetA) (pos 0 ∷ pos 1 ∷ [])
 first-A = first-named-as computedA (lit≤ tt) three refl refl
@@ -236,35 +236,35 @@ first-A = first-named-as computedA (lit≤ tt) three refl refl
 pub past-A : drop 2 (pos 0 ∷ pos 1 ∷ pos 9 ∷ []) ≡ drop 2 three
 past-A = past-kept computedA (lit≤ tt) three refl refl
 
-pub two-settings-A : (ts : List (List ℕ)) × SettingsListed (script (ruleIn sheetA)) ts × (2 ≡ length ts)
+pub two-settings-A : (models : Bool) → (ts : List (List ℕ)) × SettingsListed (script (sixteen models) (ruleIn sheetA)) ts × (2 ≡ length ts)
 two-settings-A = as-many computedA (lit≤ tt)
 
-pub names-alone-A : (length sheetA ≡ length sheetB) × (byteAt sheetA 10 ≡ byteAt sheetB 10)
-names-alone-A = (same-size computedA (lit≤ tt), same-domain computedA (lit≤ tt))
+pub names-alone-A : (models : Bool) → (length sheetA ≡ length sheetB) × (byteAt sheetA 10 ≡ byteAt sheetB 10)
+names-alone-A models = (same-size computedA (lit≤ tt) models, same-domain computedA (lit≤ tt) models)
 
-pub unsatisfiable-11 : (t : List ℕ) → Satisfies (script (ruleIn sheet11)) t → ⊥
-unsatisfiable-11 = no-setting computed11 (lit≤ tt) three refl refl
+pub unsatisfiable-11 : (models : Bool) (t : List ℕ) → Satisfies (script (sixteen models) (ruleIn sheet11)) t → ⊥
+unsatisfiable-11 models = no-setting computed11 (lit≤ tt) three refl models refl
 
 -- no setting satisfies them, but they are accepted, and declare two symbols: in hexadecimal and in binary
 abbrev two-symbols : List Declaration
 two-symbols = record { name = ascii "v0"; sort = bitVec 16 } ∷ record { name = ascii "v1"; sort = bitVec 16 } ∷ []
 
-pub declared-11 : declared (script (ruleIn sheet11)) ≡ some two-symbols
+pub declared-11 : (models : Bool) → declared (script (sixteen models) (ruleIn sheet11)) ≡ some two-symbols
 unfolding symbolText
-declared-11 = matches computed11 (lit≤ tt) .declares
+declared-11 models = matches computed11 (lit≤ tt) models .declares
 
-pub declared-in-bits-11 : declared (scriptBy (bitsLiteral 16) symbolText width16 (ruleIn sheet11)) ≡ some two-symbols
+pub declared-in-bits-11 : (models : Bool) → declared (script (inBits models 16) (ruleIn sheet11)) ≡ some two-symbols
 unfolding symbolText
-declared-in-bits-11 = matches-in-bits computed11 (lit≤ tt) .declares
+declared-in-bits-11 models = matches-in-bits computed11 (lit≤ tt) models .declares
 
 pub holds-11 : AllHold (ruleIn sheet11)
 holds-11 = all-hold computed11 (lit≤ tt) three refl refl
 
-pub no-settings-11 : (ts : List (List ℕ)) × SettingsListed (script (ruleIn sheet11)) ts × (0 ≡ length ts)
+pub no-settings-11 : (models : Bool) → (ts : List (List ℕ)) × SettingsListed (script (sixteen models) (ruleIn sheet11)) ts × (0 ≡ length ts)
 no-settings-11 = as-many computed11 (lit≤ tt)
 
-pub names-alone-11 : (length sheet11 ≡ length sheet11-renamed) × (byteAt sheet11 10 ≡ byteAt sheet11-renamed 10)
-names-alone-11 = (same-size computed11 (lit≤ tt), same-domain computed11 (lit≤ tt))
+pub names-alone-11 : (models : Bool) → (length sheet11 ≡ length sheet11-renamed) × (byteAt sheet11 10 ≡ byteAt sheet11-renamed 10)
+names-alone-11 models = (same-size computed11 (lit≤ tt) models, same-domain computed11 (lit≤ tt) models)
 
 -- ---- a node's range, in the case (0, 1) of sheet A
 pub finding-A : findingAt sheetA 0 ≡ Integer (pos 0 ⋯ pos 1)

@@ -1,5 +1,5 @@
 -- No second answer and no second room fits the statement of a call. Assumes nothing.
-use mathlib.Core.Path.{_≡_, refl, sym, ap₂, _∙_}
+use mathlib.Core.Path.{_≡_, refl, sym, ap, ap₂, _∙_}
 use mathlib.Core.Bool.{Bool, true, false}
 use mathlib.Core.List.{List, [], _++_}
 use Prim.Native.Nat.{ℕ}
@@ -14,6 +14,9 @@ use Rattle.blocks.proofs.Unique.{block-once}
 use Rattle.reading.proofs.Unique.{read-once, name-once}
 use Rattle.cases.proofs.Unique.{check-once, tally-once}
 use Rattle.writer.proofs.Unique.{write-once}
+use Rattle.trial.proofs.Unique.{reply-once, reply-into-once, digits-once}
+use Rattle.capi.specs.Codes.{replyCode}
+use Rattle.capi.proofs.ReplyLaws.{digits-code-once}
 use Rattle.agreement.specs.Statements.{OneAnswer}
 use Rattle.agreement.specs.Between.{OneBetween}
 
@@ -44,9 +47,14 @@ one-answer = record {
   block = block-once;
   check = λ s before x y r t. check-once;
   tally = λ s r t. tally-once;
-  write-script = λ s before x y r t. write-once;
+  write-script = λ f s before x y r t. write-once;
+  reply = λ s reply r t. reply-once;
+  reply-into = λ s reply before x y r t. reply-into-once;
+  digits = λ s reply variable p q. digits-once;
   ragwashin-check = λ s before x y r t h g. (h .code ∙ sym (g .code), h .room ∙ sym (g .room));
-  ragwashin-script = λ s before x y r t h g. (h .code ∙ sym (g .code), h .room ∙ sym (g .room));
+  ragwashin-script = λ f s before x y r t h g. (h .code ∙ sym (g .code), h .room ∙ sym (g .room));
+  ragwashin-reply = λ s reply r t h g. h .code ∙ ap replyCode (reply-once (h .replies) (g .replies)) ∙ sym (g .code);
+  ragwashin-digits = λ s reply variable r t. digits-code-once;
 }
 
 pub one-between : OneBetween

@@ -2,6 +2,7 @@
 use Prim.Native.Nat.{ℕ, _+_, _*_, _≤_}
 use mathlib.Core.Path.{_≡_, refl, subst, _∙_}
 use mathlib.Core.Logic.{_↔_, Iff·trans, _⊎_, inl, inr, ⊎-elim}
+use mathlib.Core.Bool.{Bool}
 use mathlib.Core.List.{List, [], map, List·Memᴰ, Memᴰ·map, Memᴰ·of-map}
 use mathlib.Core.Option.{Option, none, some}
 use native.Mathlib.Decide.{decLt, decLe}
@@ -42,11 +43,13 @@ use Rattle.cases.specs.Checks.{tryRefusal, checkRefusal}
 use Rattle.cases.proofs.Exact.{tally-exactly, check-exactly}
 use Rattle.cases.proofs.Agreement.{fails-exactly, holds-exactly, room-fails}
 use Rattle.smtlib.specs.Satisfaction.{Satisfies}
-use Rattle.wording.specs.Sixteen.{symbolText}
+use Rattle.wording.specs.Form.{sixteen}
+use Rattle.wording.specs.Binary.{inBits}
 use Rattle.wording.specs.Script.{script}
 use Rattle.forms.specs.Width.{WidthHolds}
 use Rattle.forms.proofs.Injective.{script-injective}
-use Rattle.forms.proofs.Forms.{form-declares, form16, script-by}
+use Rattle.forms.proofs.Forms.{form-declares}
+use Rattle.forms.proofs.Sixteen.{form16}
 use Rattle.forms.proofs.Bits.{form-bits}
 use Rattle.forms.proofs.MeansMatch.{one-case}
 use Rattle.forms.proofs.MeansScript.{form-means, held16}
@@ -60,7 +63,7 @@ pub refused-by-row : promise.RefusedExactly
 refused-by-row = sheet-exactly
 
 pub calls-refused-by-row : promise.CallsRefusedExactly
-calls-refused-by-row s room = (tally-exactly s, check-exactly s room, script-exactly s room)
+calls-refused-by-row s room = (tally-exactly s, check-exactly s room, λ f. script-exactly f s room)
 
 pub name-empty : promise.NameEmpty
 name-empty sheet part i p = Iff·trans (empty-where (λ g. let n = given-name (sheet .now) i g in (n .some-byte, n .inside)) p) (λ f. go (refusalOf (sheet .now)) refl f, back)
@@ -121,19 +124,19 @@ pub first-named : promise.FirstNamed
 first-named s h few before after l c = room-fails s c (checked h few l) refl .0
 
 pub room-enough : promise.RoomEnough
-room-enough s h = script-short s (accepts h)
+room-enough models s h = script-short models s (accepts h)
 
--- ---- demand 3: the match, over any width
+-- ---- demand 3: the match, over any form and width
 pub match-at-width : promise.MatchAtWidth
-match-at-width literal name digits m form r few well h = record {
-  declares = form-declares form r few well;
-  satisfies = λ c f. form-means form r few well h _ .1 (c, f, refl);
-  apart = λ c d f g. one-case (form .texts .some-bits) h (f .0) (g .0);
-  onto = λ t. form-means form r few well h t .0;
+match-at-width f m readable r few well h = record {
+  declares = form-declares readable r few well;
+  satisfies = λ c g. form-means readable r few well h _ .1 (c, g, refl);
+  apart = λ c d p q. one-case (readable .texts .some-bits) h (p .0) (q .0);
+  onto = λ t. form-means readable r few well h t .0;
 }
 
 pub match-in-bits : promise.MatchInBits
-match-in-bits digits spelled positive r well = match-at-width _ _ _ _ (form-bits digits spelled positive) r (omega (arith, well .few)) well
+match-in-bits models w positive r well = match-at-width (inBits models w) 100 (form-bits models w positive) r (omega (arith, well .few)) well
 
 -- in a case of an accepted sheet no operator wraps, since each value lies in its range
 pub in-sixteen : promise.InSixteenBits
@@ -143,53 +146,61 @@ pub held : {s : List ℕ} → Sheet s → WidthHolds 16 (ruleIn s)
 held {s} h = held16 (allowed h .well-formed) (λ c k t p. narrow-within (in-sixteen s h c k t p))
 
 pub match : promise.Match
-match s h =
+match models s h =
     let well = allowed h .well-formed in
-    rw (script-by (ruleIn s)) (match-at-width _ _ _ _ form16 (ruleIn s) (omega (arith, well .few)) well (held h))
+    match-at-width (sixteen models) 100 (form16 models) (ruleIn s) (omega (arith, well .few)) well (held h)
 
 -- ---- the check and the tally
-module _ (s : List ℕ) (h : Sheet s) where
-  abbrev SomeSetting : Type 0
-  SomeSetting = (t : List ℕ) × Satisfies (script (ruleIn s)) t
+module _ (models : Bool) (s : List ℕ) (h : Sheet s) where
+  abbrev asked : List ℕ
+  asked = script (sixteen models) (ruleIn s)
 
-  matched : Matched 16 symbolText (ruleIn s) (script (ruleIn s))
-  matched = match s h
+  abbrev SomeSetting : Type 0
+  SomeSetting = (t : List ℕ) × Satisfies asked t
+
+  matched : Matched (sixteen models) (ruleIn s)
+  matched = match models s h
 
   some-setting : ((c : List ℤ) × Failing (ruleIn s) c) ↔ SomeSetting
   some-setting = (λ p. (settingOf 16 (p .0), matched .satisfies (p .0) (p .1)), λ w. let p = matched .onto (w .0) (w .1) in (p .0, p .1))
 
+  -- each failing case's setting, in the order of the cases
+  abbrev settings : List (List ℕ)
+  settings = map (settingOf 16) (failures (ruleIn s))
+
+  all-listed : SettingsListed asked settings
+  all-listed = record { once = once; are = λ t. (to t, back t) }
+    where
+      once : NoRepeats settings
+      once = map-no-repeats (settingOf 16) (failures (ruleIn s)) (λ x y p q. matched .apart x y (failures-are (ruleIn s) x .0 p) (failures-are (ruleIn s) y .0 q)) (failures-once (ruleIn s))
+
+      to : (t : List ℕ) → List·Memᴰ t settings → Satisfies asked t
+      to t m =
+          let w = Memᴰ·of-map (settingOf 16) (failures (ruleIn s)) m in
+          subst (Satisfies asked) (w .2) (matched .satisfies (w .0) (failures-are (ruleIn s) (w .0) .0 (w .1)))
+
+      back : (t : List ℕ) → Satisfies asked t → List·Memᴰ t settings
+      back t k =
+          let p = matched .onto t k in
+          subst (λ (u : List ℕ). List·Memᴰ u settings) (p .2) (Memᴰ·map (settingOf 16) (failures-are (ruleIn s) (p .0) .1 (p .1)))
+
 pub check-agrees : promise.CheckAgrees
-check-agrees s h few before after r l c =
+check-agrees models s h few before after r l c =
     let none-refused = checked h few l in
-    (Iff·trans (fails-exactly s c none-refused) (some-setting s h), named none-refused)
+    (Iff·trans (fails-exactly s c none-refused) (some-setting models s h), named none-refused)
   where
-    named : checkRefusal s (length before) ≡ none → r ≡ Fails → Satisfies (script (ruleIn s)) (settingOf 16 (take (variableCount s) after))
+    named : checkRefusal s (length before) ≡ none → r ≡ Fails → Satisfies (script (sixteen models) (ruleIn s)) (settingOf 16 (take (variableCount s) after))
     named e p =
         let first = take (variableCount s) after in
-        matched s h .satisfies first (room-fails s c e p .0 .failing)
-
--- each failing case's setting, in the order of the cases
-all-listed : (s : List ℕ) → Sheet s → SettingsListed (script (ruleIn s)) (map (settingOf 16) (failures (ruleIn s)))
-all-listed s h = record { once = once; are = λ t. (to t, back t) }
-  where
-    once : NoRepeats (map (settingOf 16) (failures (ruleIn s)))
-    once = map-no-repeats (settingOf 16) (failures (ruleIn s)) (λ x y p q. matched s h .apart x y (failures-are (ruleIn s) x .0 p) (failures-are (ruleIn s) y .0 q)) (failures-once (ruleIn s))
-
-    to : (t : List ℕ) → List·Memᴰ t (map (settingOf 16) (failures (ruleIn s))) → Satisfies (script (ruleIn s)) t
-    to t m =
-        let w = Memᴰ·of-map (settingOf 16) (failures (ruleIn s)) m in
-        subst (Satisfies (script (ruleIn s))) (w .2) (matched s h .satisfies (w .0) (failures-are (ruleIn s) (w .0) .0 (w .1)))
-
-    back : (t : List ℕ) → Satisfies (script (ruleIn s)) t → List·Memᴰ t (map (settingOf 16) (failures (ruleIn s)))
-    back t k =
-        let p = matched s h .onto t k in
-        subst (λ (u : List ℕ). List·Memᴰ u (map (settingOf 16) (failures (ruleIn s)))) (p .2) (Memᴰ·map (settingOf 16) (failures-are (ruleIn s) (p .0) .1 (p .1)))
+        matched models s h .satisfies first (room-fails s c e p .0 .failing)
 
 pub tally-agrees : promise.TallyAgrees
-tally-agrees s h few r c = (map (settingOf 16) (failures (ruleIn s)), all-listed s h, c .failed-count ∙ rw (tallied h few, length-map) (failed-is (ruleIn s)))
+tally-agrees models s h few r c = (settings models s h, all-listed models s h, c .failed-count ∙ rw (tallied h few, length-map) (failed-is (ruleIn s)))
 
 -- ---- same script, same sheet
 pub same-script : promise.SameScript
-same-script s t h g e =
-    let alike = script-injective (ruleIn s) (ruleIn t) (allowed h .well-formed) (allowed g .well-formed) e in
+same-script models s t h g e =
+    let well = allowed h .well-formed in
+    let good = allowed g .well-formed in
+    let alike = script-injective (form16 models) (ruleIn s) (ruleIn t) (omega (arith, well .few)) (omega (arith, good .few)) well good (held h) (held g) e in
     (lengths s t (laid-out h) (laid-out g) alike, agrees s t (laid-out h) (laid-out g) alike)

@@ -20,6 +20,7 @@ use Rattle.refusals.specs.Said.{unless}
 use Rattle.reading.specs.Cascade.{refusalOf}
 use Rattle.cases.specs.declared.Checked.{Checked}
 use Rattle.cases.specs.Checks.{tryRefusal, checkRefusal, checkedSaid, Checks}
+use Rattle.wording.specs.Form.{Form}
 use Rattle.wording.specs.Script.{script}
 use Rattle.room.specs.Room.{over}
 use Rattle.writer.specs.declared.Written.{Written}
@@ -81,14 +82,14 @@ check-room s before after r h = by (checkRefusal s (length before)) refl (firstF
           size = ap length e ∙ whole c before v n l;
         }
 
-script-room : (s before after : List ℕ) (r : Written) → Writes s before r after → ScriptRoom s before r after
+script-room : (f : Form) (s before after : List ℕ) (r : Written) → Writes f s before r after → ScriptRoom f s before r after
 unfolding scriptRefusal over
-script-room s before after r h = by (scriptRefusal s (length before)) refl
+script-room f s before after r h = by (scriptRefusal f s (length before)) refl
   where
     text : List ℕ
-    text = script (ruleIn s)
+    text = script f (ruleIn s)
 
-    by : (o : Option Refusal) → scriptRefusal s (length before) ≡ o → ScriptRoom s before r after
+    by : (o : Option Refusal) → scriptRefusal f s (length before) ≡ o → ScriptRoom f s before r after
     by (some x) p =
         let e : after ≡ before = h .room ∙ rw p in
         let said : writtenSaid r ≡ (some x, 0) = h .answer ∙ rw p in
@@ -110,4 +111,4 @@ script-room s before after r h = by (scriptRefusal s (length before)) refl
         }
 
 pub rooms-kept : promise.RoomKept
-rooms-kept s = (check-room s, script-room s)
+rooms-kept s = (check-room s, λ f. script-room f s)

@@ -1,7 +1,7 @@
 -- Document 01's starred cases, by running the definitions: what `read` answers of each sheet, once, and from that what the other calls answer. Assumes nothing.
 use Prim.Native.Nat.{ℕ}
 use mathlib.Core.Path.{_≡_, refl, sym, ap, _∙_}
-use mathlib.Core.Bool.{true}
+use mathlib.Core.Bool.{true, false}
 use mathlib.Core.List.{List, [], _∷_, map}
 use mathlib.Core.Option.{Option, none, some}
 use lib.Dec.{leb}
@@ -11,6 +11,7 @@ use Rattle.lists.specs.Places.{allBelow}
 use Rattle.lists.specs.Course.{below, course}
 use Rattle.lists.specs.First.{first}
 use Rattle.numbers.specs.Two.{enc, dec}
+use Rattle.numbers.specs.Decimal.{decimalIn, decimal}
 use Rattle.numbers.specs.Ranges.{isNarrow, hasNarrowEnds, leastOf, greatestOf}
 use Rattle.meaning.specs.Value.{value}
 use Rattle.meaning.specs.Cases.{sizeOf, casesOf, holds, failures, firstFailure, held, failed}
@@ -35,6 +36,7 @@ use Rattle.cases.specs.declared.Checked.{Checked}
 use Rattle.cases.specs.Checks.{checkRefusal, checkedSaid, isSome, withCase, Checks}
 use Rattle.cases.specs.Tallies.{Tallies}
 use Rattle.wording.specs.Sixteen.{hexDigit, hexText, literal, symbolText}
+use Rattle.wording.specs.Form.{sixteen}
 use Rattle.wording.specs.Script.{script}
 use Rattle.room.specs.Room.{over}
 use Rattle.writer.specs.declared.Written.the-variants.{Script}
@@ -53,10 +55,10 @@ in-row n e = ap (λ (l : List (Option Refusal)). getD l n none) e
 
 -- ---- what the other calls answer of an accepted sheet
 module _ (s : List ℕ) (e : refusalOf s ≡ none) where
-  writes-as : (room : List ℕ) {t : List ℕ} → script (ruleIn s) ≡ t → leb (length t) (length room) ≡ true → Writes s room (Script (length t)) (over t room)
+  writes-as : (room : List ℕ) {t : List ℕ} → script (sixteen false) (ruleIn s) ≡ t → leb (length t) (length room) ≡ true → Writes (sixteen false) s room (Script (length t)) (over t room)
   unfolding scriptRefusal
   writes-as room {t} p enough =
-      let d : scriptRefusal s (length room) ≡ none = rw (e, p, enough) in
+      let d : scriptRefusal (sixteen false) s (length room) ≡ none = rw (e, p, enough) in
       record { answer = rw (d, p); room = rw (d, p) }
 
   module _ (few : leb (caseCount (ruleIn s)) mostCases ≡ true) where
@@ -75,7 +77,7 @@ a & b = (a, b)
 
 infixr 20 _&_
 pub starred : EachMet starredCases
-unfolding value sizeOf casesOf holds failures firstFailure held failed treeAt below course first enc dec leastOf greatestOf find kindOf ofTree ofNode findingOf hexDigit hexText literal symbolText script over
+unfolding value sizeOf casesOf holds failures firstFailure held failed treeAt below course first enc dec leastOf greatestOf find kindOf ofTree ofNode findingOf hexDigit decimalIn decimal hexText literal symbolText script over
 starred =
     (sym (in-row 0 reads) & tt)
     & (sym (in-row 1 reads) & checks-as _ (in-row 1 reads) refl _ refl refl refl & tallies-as _ (in-row 1 reads) refl refl refl & writes-as _ (in-row 1 reads) _ refl refl & tt)

@@ -24,6 +24,7 @@ use Rattle.cases.specs.declared.Checked.the-variants.{Holds, Fails}
 use Rattle.cases.specs.declared.Tallied.{Tallied}
 use Rattle.cases.specs.Checks.{Checks}
 use Rattle.cases.specs.Tallies.{Tallies}
+use Rattle.wording.specs.Form.{sixteen}
 use Rattle.writer.specs.declared.Written.{Written}
 use Rattle.writer.specs.declared.Written.the-variants.{Script}
 use Rattle.writer.specs.Writes.{Writes}
@@ -66,7 +67,7 @@ Met s (reads r) = saidOf r ≡ refusalOf s
 Met s (finds n r) = findingAt s n ≡ Integer r
 Met s (checks room r after) = Checks s room r after
 Met s (tallies r) = Tallies s r
-Met s (writes size r after) = Writes s (replicate size 0) r after
+Met s (writes size r after) = Writes (sixteen false) s (replicate size 0) r after
 
 pub record StarredCase : Type 0 where
   pub sheet : List ℕ

@@ -1,7 +1,9 @@
 -- The promises over the whole, a definition each, in the order of the demands. Each is proved under its name in `proofs/Proved`, and its premises are met
--- in `proofs/Applied`. What each call answers stands beside it: `refusalOf`, `NamePart`, `BlockPart`, `Checks`, `Tallies`, `Writes`, `capi/specs/Codes`.
+-- in `proofs/Applied`. What each call answers stands beside it: `refusalOf`, `NamePart`, `BlockPart`, `Checks`, `Tallies`, `Writes`, `Replies`, `DigitsPart`,
+-- `capi/specs/Codes`.
 use Prim.Native.Nat.{ℕ, _+_, _/_, _≤_, _<_}
 use mathlib.Core.Path.{_≡_}
+use mathlib.Core.Bool.{Bool}
 use mathlib.Core.Logic.{_↔_, _⊎_}
 use mathlib.Core.List.{List, map, List·Memᴰ}
 use mathlib.Core.Option.{some}
@@ -12,7 +14,7 @@ use Rattle.lists.specs.Places.{from, NoRepeats}
 use Rattle.lists.specs.Part.{SamePart}
 use Rattle.refusals.specs.declared.Refusal.{Refusal}
 use Rattle.refusals.specs.Rows.{Exactly}
-use Rattle.numbers.specs.Two.{enc}
+use Rattle.numbers.specs.Two.{enc, dec}
 use Rattle.numbers.specs.Bytes.{byteAt, Bytes}
 use Rattle.numbers.specs.Ranges.{Narrow}
 use Rattle.meaning.specs.declared.Sort.the-variants.{Integer}
@@ -30,7 +32,7 @@ use Rattle.layout.specs.Sheet.{sheetOf}
 use Rattle.refusals.specs.declared.Reading.{Reading}
 use Rattle.refusals.specs.Said.{saidOf}
 use Rattle.blocks.specs.Block.{BlockPart}
-use Rattle.capi.specs.Codes.{CheckCodes, ScriptCodes}
+use Rattle.capi.specs.Codes.{CheckCodes, ScriptCodes, ReplyCodes, DigitsCodes}
 use Rattle.reading.specs.Rows.{sheetRows, Accepted}
 use Rattle.reading.specs.Cascade.{refusalOf}
 use Rattle.reading.specs.Lawful.{Allowed}
@@ -42,21 +44,26 @@ use Rattle.cases.specs.declared.Tallied.{Tallied}
 use Rattle.cases.specs.Checks.{tryRefusal, checkRefusal, Checks}
 use Rattle.cases.specs.Tallies.{Tallies}
 use Rattle.cases.specs.Rows.{tallyRows, checkRows}
-use Rattle.smtlib.specs.Tokens.{numeral}
+use Rattle.smtlib.specs.Tokens.{digitValue}
 use Rattle.smtlib.specs.Values.{bitVec}
 use Rattle.smtlib.specs.Terms.{numberOf}
 use Rattle.smtlib.specs.Commands.{Declaration}
 use Rattle.smtlib.specs.Satisfaction.{declared, Satisfies}
-use Rattle.smtlib.specs.Spelling.{Spelled}
-use Rattle.wording.specs.Sixteen.{symbolText}
+use Rattle.wording.specs.Form.{Form, sixteen}
+use Rattle.wording.specs.Binary.{inBits}
 use Rattle.wording.specs.Script.{script}
-use Rattle.forms.specs.Form.{Form, scriptBy}
-use Rattle.forms.specs.Binary.{bitsLiteral}
+use Rattle.forms.specs.Readable.{Readable}
 use Rattle.forms.specs.Width.{WidthHolds}
 use Rattle.writer.specs.declared.Written.{Written}
 use Rattle.writer.specs.declared.Written.the-variants.{Script, Refused}
 use Rattle.writer.specs.Writes.{scriptRefusal, enoughRoom, Writes}
 use Rattle.writer.specs.Rows.{scriptRows}
+use Rattle.replies.specs.Says.{SpellsSetting, SpellsCase}
+use Rattle.digits.specs.Hashes.{digitsBase}
+use Rattle.trial.specs.declared.Replied.{Replied}
+use Rattle.trial.specs.declared.Replied.the-variants.{Fails as Replied·Fails}
+use Rattle.trial.specs.Replies.{Replies, RepliesInto}
+use Rattle.trial.specs.Digits.{DigitsGiven, DigitsPart}
 
 -- an accepted sheet: bytes to which no row of the table of refusals applies
 pub record Sheet (s : List ℕ) : Type 0 where
@@ -67,10 +74,12 @@ pub record Sheet (s : List ℕ) : Type 0 where
 abbrev pub RefusedExactly : Type 0
 RefusedExactly = (s : List ℕ) → Exactly (sheetRows s) (refusalOf s)
 
--- 10 and 9, for the calls that give them: the tally, the check with so many numbers of room, the writer with so many bytes
+-- 10 and 9, for the calls that give them: the tally, the check with so many numbers of room, the writer with so many bytes, in any form. What a reply is refused
+-- for stands in `Replies`
 abbrev pub CallsRefusedExactly : Type 0
 CallsRefusedExactly =
-    (s : List ℕ) (room : ℕ) → Exactly (tallyRows s) (tryRefusal s) × Exactly (checkRows s room) (checkRefusal s room) × Exactly (scriptRows s room) (scriptRefusal s room)
+    (s : List ℕ) (room : ℕ)
+    → Exactly (tallyRows s) (tryRefusal s) × Exactly (checkRows s room) (checkRefusal s room) × ((f : Form) → Exactly (scriptRows f s room) (scriptRefusal f s room))
 
 -- a name is empty exactly where the sheet is refused or the variable isn't below V; a block's content, where the block isn't wholly inside or its check is wrong
 abbrev pub NameEmpty : Type 0
@@ -124,62 +133,58 @@ pub record CheckRoom (s : List ℕ) (before : List ℤ) (r : Checked) (after : L
   pub size : length after ≡ length before
 
 -- only a script that is written changes the room: n bytes, which are the script, and nothing past them
-pub record ScriptRoom (s before : List ℕ) (r : Written) (after : List ℕ) : Type 0 where
+pub record ScriptRoom (f : Form) (s before : List ℕ) (r : Written) (after : List ℕ) : Type 0 where
   pub refused : (q : Refusal) → r ≡ Refused q → after ≡ before
-  pub written : (n : ℕ) → r ≡ Script n → (take n after ≡ script (ruleIn s)) × (drop n after ≡ drop n before)
+  pub written : (n : ℕ) → r ≡ Script n → (take n after ≡ script f (ruleIn s)) × (drop n after ≡ drop n before)
   pub size : length after ≡ length before
 
 abbrev pub RoomKept : Type 0
 RoomKept =
     (s : List ℕ)
     → ((before after : List ℤ) (r : Checked) → Checks s before r after → CheckRoom s before r after)
-    × ((before after : List ℕ) (r : Written) → Writes s before r after → ScriptRoom s before r after)
+    × ((f : Form) (before after : List ℕ) (r : Written) → Writes f s before r after → ScriptRoom f s before r after)
 
 -- in no case does an operator leave 16 bits: each integer in the goal has a value in -32,768..32,767
 abbrev pub InSixteenBits : Type 0
 InSixteenBits = (s : List ℕ) → Sheet s → (c : List ℤ) → Case (ruleIn s) c → (t : Tree Integer) → PartOf t (ruleIn s .goal) → Narrow (value (valueIn c) t)
 
--- a room of 4,096 bytes is enough for every script
+-- a room of 4,096 bytes is enough for every script, with models and without
 abbrev pub RoomEnough : Type 0
-RoomEnough = (s : List ℕ) → Sheet s → length (script (ruleIn s)) ≤ enoughRoom
+RoomEnough = (models : Bool) (s : List ℕ) → Sheet s → length (script (sixteen models) (ruleIn s)) ≤ enoughRoom
 
 -- ---- demand 3: each symbol holds its variable's value in two's complement at w bits
 abbrev pub settingOf : ℕ → List ℤ → List ℕ
 settingOf w c = map (enc w) c
 
--- a symbol of w bits for each of n variables, in order
-abbrev pub symbols : ℕ → (ℕ → List ℕ) → ℕ → List Declaration
-symbols w name n = from (λ i. record { name = name i; sort = bitVec w }) 0 n
+-- a symbol of the form's width for each of n variables, in order
+abbrev pub symbols : Form → ℕ → List Declaration
+symbols f n = from (λ i. record { name = f .symbol i; sort = bitVec (f .width) }) 0 n
 
--- SMT-LIB accepts the text, which declares these symbols and no others; and the rule's failing cases and the settings that satisfy the text match one to one
-pub record Matched (w : ℕ) (name : ℕ → List ℕ) (r : Rule) (text : List ℕ) : Type 0 where
-  pub declares : declared text ≡ some (symbols w name (length (r .variables)))
-  pub satisfies : (c : List ℤ) → Failing r c → Satisfies text (settingOf w c)
-  pub apart : (c d : List ℤ) → Failing r c → Failing r d → settingOf w c ≡ settingOf w d → c ≡ d
-  pub onto : (t : List ℕ) → Satisfies text t → (c : List ℤ) × Failing r c × (settingOf w c ≡ t)
+-- SMT-LIB accepts the script, which declares these symbols and no others; and the rule's failing cases and the settings that satisfy the script match one to one
+pub record Matched (f : Form) (r : Rule) : Type 0 where
+  pub declares : declared (script f r) ≡ some (symbols f (length (r .variables)))
+  pub satisfies : (c : List ℤ) → Failing r c → Satisfies (script f r) (settingOf (f .width) c)
+  pub apart : (c d : List ℤ) → Failing r c → Failing r d → settingOf (f .width) c ≡ settingOf (f .width) d → c ≡ d
+  pub onto : (t : List ℕ) → Satisfies (script f r) t → (c : List ℤ) × Failing r c × (settingOf (f .width) c ≡ t)
 
--- for every accepted sheet and its script, whose symbols are v0 to v(V - 1)
+-- for every accepted sheet and both of its scripts, whose symbols are v0 to v(V - 1)
 abbrev pub Match : Type 0
-Match = (s : List ℕ) → Sheet s → Matched 16 symbolText (ruleIn s) (script (ruleIn s))
+Match = (models : Bool) (s : List ℕ) → Sheet s → Matched (sixteen models) (ruleIn s)
 
--- over any width that holds the rule, and any form of the script at that width
+-- over any form that SMT-LIB reads as it is meant, and any width that holds the rule
 abbrev pub MatchAtWidth : Type 0
-MatchAtWidth =
-    (literal : ℤ → List ℕ) (name : ℕ → List ℕ) (digits : List ℕ) (m : ℕ) → Form literal name digits m
-    → (r : Rule) → length (r .variables) ≤ m → WellFormed r → WidthHolds (numberOf 10 digits) r
-    → Matched (numberOf 10 digits) name r (scriptBy literal name digits r)
+MatchAtWidth = (f : Form) (m : ℕ) → Readable f m → (r : Rule) → length (r .variables) ≤ m → WellFormed r → WidthHolds (f .width) r → Matched f r
 
 -- such a form, at every width: a constant is `#b` and so many binary digits
 abbrev pub MatchInBits : Type 0
-MatchInBits =
-    (digits : List ℕ) → Spelled (numeral digits) → 1 ≤ numberOf 10 digits → (r : Rule) → WellFormed r → WidthHolds (numberOf 10 digits) r
-    → Matched (numberOf 10 digits) symbolText r (scriptBy (bitsLiteral (numberOf 10 digits)) symbolText digits r)
+MatchInBits = (models : Bool) (w : ℕ) → 1 ≤ w → (r : Rule) → WellFormed r → WidthHolds w r → Matched (inBits models w) r
 
 -- up to 1,000,000 cases and with room for V numbers, the check reports a failing case exactly when some setting satisfies the script, and the case gives one
 abbrev pub CheckAgrees : Type 0
 CheckAgrees =
-    (s : List ℕ) → Sheet s → caseCount (ruleIn s) ≤ mostCases → (before after : List ℤ) (r : Checked) → variableCount s ≤ length before → Checks s before r after
-    → ((r ≡ Fails) ↔ ((t : List ℕ) × Satisfies (script (ruleIn s)) t)) × (r ≡ Fails → Satisfies (script (ruleIn s)) (settingOf 16 (take (variableCount s) after)))
+    (models : Bool) (s : List ℕ) → Sheet s → caseCount (ruleIn s) ≤ mostCases → (before after : List ℤ) (r : Checked) → variableCount s ≤ length before → Checks s before r after
+    → ((r ≡ Fails) ↔ ((t : List ℕ) × Satisfies (script (sixteen models) (ruleIn s)) t))
+    × (r ≡ Fails → Satisfies (script (sixteen models) (ruleIn s)) (settingOf 16 (take (variableCount s) after)))
 
 -- the settings that satisfy the script, each once, are as many as the tally's failed count says
 pub record SettingsListed (text : List ℕ) (ts : List (List ℕ)) : Type 0 where
@@ -188,14 +193,36 @@ pub record SettingsListed (text : List ℕ) (ts : List (List ℕ)) : Type 0 wher
 
 abbrev pub TallyAgrees : Type 0
 TallyAgrees =
-    (s : List ℕ) → Sheet s → caseCount (ruleIn s) ≤ mostCases → (r : Tallied) → Tallies s r
-    → (ts : List (List ℕ)) × SettingsListed (script (ruleIn s)) ts × (r .failed ≡ length ts)
+    (models : Bool) (s : List ℕ) → Sheet s → caseCount (ruleIn s) ≤ mostCases → (r : Tallied) → Tallies s r
+    → (ts : List (List ℕ)) × SettingsListed (script (sixteen models) (ruleIn s)) ts × (r .failed ≡ length ts)
 
--- two accepted sheets with the same script have one length, and differ in no byte but name lengths, names and block 0's check
+-- two accepted sheets with the same script, in one form, have one length, and differ in no byte but name lengths, names and block 0's check
 abbrev pub SameScript : Type 0
 SameScript =
-    (s t : List ℕ) → Sheet s → Sheet t → script (ruleIn s) ≡ script (ruleIn t)
+    (models : Bool) (s t : List ℕ) → Sheet s → Sheet t → script (sixteen models) (ruleIn s) ≡ script (sixteen models) (ruleIn t)
     → (length s ≡ length t) × ((j : ℕ) → Nameless (variableCount s) j → byteAt s j ≡ byteAt t j)
+
+-- ---- replies (document 02, item 1): what is believed spells a failing case, and every spelling of every failing case is believed, whoever wrote it
+abbrev pub RepliesBelieved : Type 0
+RepliesBelieved = (s : List ℕ) → Sheet s → (reply : List ℕ) → Replies s reply Replied·Fails ↔ ((c : List ℤ) × Failing (ruleIn s) c × SpellsCase (variableCount s) reply c)
+
+-- so, in either form, exactly the spellings of settings that satisfy the script are believed
+abbrev pub RepliesSatisfy : Type 0
+RepliesSatisfy =
+    (models : Bool) (s : List ℕ) → Sheet s → (reply : List ℕ)
+    → Replies s reply Replied·Fails ↔ ((t : List ℕ) × Satisfies (script (sixteen models) (ruleIn s)) t × SpellsSetting (variableCount s) reply t)
+
+-- each failing case has a spelling
+abbrev pub CasesSpelled : Type 0
+CasesSpelled = (s : List ℕ) → Sheet s → (c : List ℤ) → Failing (ruleIn s) c → (reply : List ℕ) × SpellsCase (variableCount s) reply c
+
+-- the part that `digits` gives, read as a number in two's complement, is the variable's value; the part is empty unless `sat` is accepted and the variable listed
+abbrev pub DigitsRead : Type 0
+DigitsRead =
+    (s : List ℕ) (reply part : RefT (List ℕ)) (i : ℕ) → DigitsPart s reply i part
+    → ((c : List ℤ) → DigitsGiven s (reply .now) i → SpellsCase (variableCount s) (reply .now) c
+    → dec 16 (numberOf (digitsBase i (reply .now)) (map digitValue (part .now))) ≡ valueIn c i)
+    × ((length (part .now) ≡ 0) ↔ (DigitsGiven s (reply .now) i → ⊥))
 
 -- ---- each call: no second answer and no second room fits the predicate that its `ensures` names; of a returned part, bytes and place in memory are meant
 pub record OneAnswer : Type 0 where
@@ -204,7 +231,12 @@ pub record OneAnswer : Type 0 where
   pub block : (sheet : RefT (List ℕ)) (k : ℕ) (p q : RefT (List ℕ)) → BlockPart sheet k p → BlockPart sheet k q → SamePart p q
   pub check : (s : List ℕ) (before x y : List ℤ) (r t : Checked) → Checks s before r x → Checks s before t y → (r ≡ t) × (x ≡ y)
   pub tally : (s : List ℕ) (r t : Tallied) → Tallies s r → Tallies s t → r ≡ t
-  pub write-script : (s before x y : List ℕ) (r t : Written) → Writes s before r x → Writes s before t y → (r ≡ t) × (x ≡ y)
+  pub write-script : (f : Form) (s before x y : List ℕ) (r t : Written) → Writes f s before r x → Writes f s before t y → (r ≡ t) × (x ≡ y)
+  pub reply : (s reply : List ℕ) (r t : Replied) → Replies s reply r → Replies s reply t → r ≡ t
+  pub reply-into : (s reply : List ℕ) (before x y : List ℤ) (r t : Replied) → RepliesInto s reply before r x → RepliesInto s reply before t y → (r ≡ t) × (x ≡ y)
+  pub digits : (s : List ℕ) (reply : RefT (List ℕ)) (variable : ℕ) (p q : RefT (List ℕ)) → DigitsPart s reply variable p → DigitsPart s reply variable q → SamePart p q
   -- of the C interface; its other answers are equations
   pub ragwashin-check : (s : List ℕ) (before x y : List ℤ) (r t : ℕ) → CheckCodes s before r x → CheckCodes s before t y → (r ≡ t) × (x ≡ y)
-  pub ragwashin-script : (s before x y : List ℕ) (r t : ℕ) → ScriptCodes s before r x → ScriptCodes s before t y → (r ≡ t) × (x ≡ y)
+  pub ragwashin-script : (f : Form) (s before x y : List ℕ) (r t : ℕ) → ScriptCodes f s before r x → ScriptCodes f s before t y → (r ≡ t) × (x ≡ y)
+  pub ragwashin-reply : (s reply : List ℕ) (r t : ℕ) → ReplyCodes s reply r → ReplyCodes s reply t → r ≡ t
+  pub ragwashin-digits : (s reply : List ℕ) (variable r t : ℕ) → DigitsCodes s reply variable r → DigitsCodes s reply variable t → r ≡ t

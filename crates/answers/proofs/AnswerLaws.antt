@@ -31,6 +31,7 @@ use Rattle.cases.specs.declared.Tallied.{Tallied}
 use Rattle.cases.specs.Checks.{tryRefusal, checkRefusal, checkedSaid, verdict, roomAfter, Checks}
 use Rattle.cases.specs.Tallies.{Tallies}
 use Rattle.cases.proofs.TryLaws.{accepted, tried-inside}
+use Rattle.wording.specs.Form.{sixteen}
 use Rattle.wording.specs.Script.{script}
 use Rattle.room.specs.Room.{within, over, Wrote}
 use Rattle.room.proofs.RoomLaws.{wrote-as}
@@ -41,9 +42,9 @@ use Rattle.writer.proofs.ScriptLaws.{script-short}
 use Rattle.phrases.specs.Phrases.{numbersLine, refusalLine}
 use Rattle.phrases.specs.Pieces.{Settled, failsLine}
 use Rattle.phrases.proofs.NameValueLaws.{nameValues-are}
-use Rattle.answers.specs.Answers.{answered, checkLine, answerText}
+use Rattle.answers.specs.Answers.{answered, failing, checkLine, scriptAnswer, answerText}
 use Rattle.answers.specs.declared.Request.{Request}
-use Rattle.answers.specs.declared.Request.the-variants.{Read, Script, Check, Tally}
+use Rattle.answers.specs.declared.Request.the-variants.{Read, Script, Ask, Check, Tally}
 
 -- ---- a text at the room's front: its bytes are counted
 pub counted : {t before after : List ℕ} {r : ℕ} → Wrote t before after 0 r → Counts r after
@@ -88,30 +89,39 @@ module _ (s : List ℕ) where
     read-refused d = refused _ (sym e ∙ ap saidOf d)
 
   -- ---- the script: 4,096 bytes are always enough
-  module _ {before after : List ℕ} (h : enoughRoom ≤ length before) {a : Written} (w : Writes s before a after) where
-    script-refusal : scriptRefusal s (length before) ≡ refusalOf s
+  module _ (models : Bool) {before after : List ℕ} (h : enoughRoom ≤ length before) {a : Written} (w : Writes (sixteen models) s before a after) where
+    script-refusal : scriptRefusal (sixteen models) s (length before) ≡ refusalOf s
     unfolding scriptRefusal
     script-refusal = go (refusalOf s) refl
       where
-        go : (o : Option Refusal) → refusalOf s ≡ o → scriptRefusal s (length before) ≡ refusalOf s
+        go : (o : Option Refusal) → refusalOf s ≡ o → scriptRefusal (sixteen models) s (length before) ≡ refusalOf s
         go (some r) e = otherwise-some _ e ∙ sym e
-        go none e = passes (length (script (ruleIn s))) (length before) 9 (length (script (ruleIn s))) e (omega (arith, script-short s e)) ∙ sym e
+        go none e = passes (length (script (sixteen models) (ruleIn s))) (length before) 9 (length (script (sixteen models) (ruleIn s))) e (omega (arith, script-short models s e)) ∙ sym e
 
-    pub script-written : {n : ℕ} → a ≡ written n → Wrote (answerText Script s) before after 0 n
-    unfolding answerText
+    pub script-written : {n : ℕ} → a ≡ written n → Wrote (scriptAnswer (sixteen models) s) before after 0 n
+    unfolding scriptAnswer
     script-written {n} d = go (refusalOf s) refl (sym (ap writtenSaid d) ∙ w .answer ∙ rw script-refusal) (w .room ∙ rw script-refusal)
       where
-        go : (o : Option Refusal) → refusalOf s ≡ o → (none, n) ≡ scriptVerdict o (script (ruleIn s)) → after ≡ scriptRoom o (script (ruleIn s)) before → Wrote (answered (refusalOf s) (script (ruleIn s))) before after 0 n
+        go : (o : Option Refusal) → refusalOf s ≡ o → (none, n) ≡ scriptVerdict o (script (sixteen models) (ruleIn s)) → after ≡ scriptRoom o (script (sixteen models) (ruleIn s)) before → Wrote (answered (refusalOf s) (script (sixteen models) (ruleIn s))) before after 0 n
         go none e p g = wrote-as (at-front (ap (λ (x : Option Refusal × ℕ). x .1) p) g) (told e)
         go (some r) e p g = absurd (Option·none-ne-some r (ap refusalIn p))
 
-    pub script-refused : {r : Refusal} → a ≡ writeRefused r → (after ≡ before) × (refusalLine r ≡ answerText Script s)
-    unfolding answerText
+    pub script-refused : {r : Refusal} → a ≡ writeRefused r → (after ≡ before) × (refusalLine r ≡ scriptAnswer (sixteen models) s)
+    unfolding scriptAnswer
     script-refused {r} d = go (refusalOf s) refl (sym (ap writtenSaid d) ∙ w .answer ∙ rw script-refusal) (w .room ∙ rw script-refusal)
       where
-        go : (o : Option Refusal) → refusalOf s ≡ o → (some r, 0) ≡ scriptVerdict o (script (ruleIn s)) → after ≡ scriptRoom o (script (ruleIn s)) before → (after ≡ before) × (refusalLine r ≡ answered (refusalOf s) (script (ruleIn s)))
+        go : (o : Option Refusal) → refusalOf s ≡ o → (some r, 0) ≡ scriptVerdict o (script (sixteen models) (ruleIn s)) → after ≡ scriptRoom o (script (sixteen models) (ruleIn s)) before → (after ≡ before) × (refusalLine r ≡ answered (refusalOf s) (script (sixteen models) (ruleIn s)))
         go none e p g = absurd (Option·some-ne-none r (ap refusalIn p))
         go (some q) e p g = (g, refused _ (e ∙ sym (ap refusalIn p)))
+
+  -- the two requests for a script
+  pub script-request : {before after : List ℕ} {n : ℕ} → Wrote (scriptAnswer (sixteen false) s) before after 0 n → Wrote (answerText Script s) before after 0 n
+  unfolding answerText
+  script-request w = w
+
+  pub ask-request : {before after : List ℕ} {n : ℕ} → Wrote (scriptAnswer (sixteen true) s) before after 0 n → Wrote (answerText Ask s) before after 0 n
+  unfolding answerText
+  ask-request w = w
 
   -- ---- the check: a row of a number for each variable is always enough
   case-length : {c : List ℤ} → firstFailure (ruleIn s) ≡ some c → length c ≡ variableCount s
@@ -181,7 +191,7 @@ module _ (s : List ℕ) where
           }
 
       pub check-fails : failsLine s after ≡ answerText Check s
-      unfolding answerText checkLine failsLine
+      unfolding answerText failing checkLine failsLine
       check-fails =
           let k = found d in
           ap (λ (l : List ℕ). ascii "fails" ++ l ++ ascii "\n") (nameValues-are s after case-is (case-length (k .first))) ∙ ap (checkLine (ruleIn s)) (sym (k .first)) ∙ told (k .tried)

@@ -32,8 +32,8 @@ use Rattle.wording.specs.Script.{script}
 use Rattle.numbers.specs.Decimal.{decimalIn, decimal, signed}
 use Rattle.phrases.specs.Phrases.{numbersLine, refusalLine, nameValue, nameValues}
 use Rattle.answers.specs.declared.Request.{Request}
-use Rattle.answers.specs.declared.Request.the-variants.{Read, Script, Check, Tally}
-use Rattle.answers.specs.Answers.{answered, checkLine, answerText}
+use Rattle.answers.specs.declared.Request.the-variants.{Read, Script, Ask, Check, Tally}
+use Rattle.answers.specs.Answers.{answered, failing, checkLine, scriptAnswer, answerText}
 
 -- ---- numbers
 pub numbers : map signed (pos 0 ∷ pos 9 ∷ pos 10 ∷ pos 65535 ∷ negsuc 0 ∷ negsuc 32767 ∷ []) ≡ ascii "0" ∷ ascii "9" ∷ ascii "10" ∷ ascii "65535" ∷ ascii "-1" ∷ ascii "-32768" ∷ []
@@ -56,16 +56,18 @@ abbrev table : List Row
 table =
     (Read, sheetA, ascii "accepted\n")
     ∷ (Script, sheetA, ascii "(set-logic QF_UFBV)\n(declare-fun v0 () (_ BitVec 16))\n(declare-fun v1 () (_ BitVec 16))\n(assert (and (bvsle #x0000 v0) (bvsle v0 #x0001)))\n(assert (and (bvsle #x0000 v1) (bvsle v1 #x0001)))\n(assert (not (= v0 v1)))\n(check-sat)\n(exit)\n")
+    ∷ (Ask, sheetA, ascii "(set-option :produce-models true)\n(set-logic QF_UFBV)\n(declare-fun v0 () (_ BitVec 16))\n(declare-fun v1 () (_ BitVec 16))\n(assert (and (bvsle #x0000 v0) (bvsle v0 #x0001)))\n(assert (and (bvsle #x0000 v1) (bvsle v1 #x0001)))\n(assert (not (= v0 v1)))\n(check-sat)\n(get-value (v0 v1))\n(exit)\n")
     ∷ (Check, sheetA, ascii "fails seated=0 trained=1\n")
     ∷ (Check, always, ascii "holds\n")
     ∷ (Tally, sheetA, ascii "held 2 failed 2\n")
     ∷ (Tally, always, ascii "held 1 failed 0\n")
     ∷ (Read, [], ascii "refused 1 at 0\n")
     ∷ (Script, [], ascii "refused 1 at 0\n")
+    ∷ (Ask, [], ascii "refused 1 at 0\n")
     ∷ (Check, [], ascii "refused 1 at 0\n")
     ∷ (Tally, [], ascii "refused 1 at 0\n")
     ∷ []
 
 pub answers : map (λ (r : Row). answerText (r .0) (r .1)) table ≡ map (λ (r : Row). r .2) table
-unfolding value sizeOf casesOf holds failures firstFailure held failed treeAt allBelow below course first enc dec isNarrow hasNarrowEnds leastOf greatestOf find kindOf weighted checkOf sealed blockRight startAt ofTree ofNode sheetOf lengthRight early zeros countsRight tailClear outsideClear header isLetter isNameByte allNameBytes nameRight sameBytes variableRight fresh findingOf rightlyPlaced typed nodeRefusal nodes refusalOf hexDigit hexText literal symbolText script decimalIn decimal signed numbersLine refusalLine answered nameValue nameValues checkLine answerText
+unfolding value sizeOf casesOf holds failures firstFailure held failed treeAt allBelow below course first enc dec isNarrow hasNarrowEnds leastOf greatestOf find kindOf weighted checkOf sealed blockRight startAt ofTree ofNode sheetOf lengthRight early zeros countsRight tailClear outsideClear header isLetter isNameByte allNameBytes nameRight sameBytes variableRight fresh findingOf rightlyPlaced typed nodeRefusal nodes refusalOf hexDigit hexText literal symbolText script decimalIn decimal signed numbersLine refusalLine answered nameValue nameValues failing checkLine scriptAnswer answerText
 answers = refl

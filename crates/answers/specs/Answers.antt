@@ -1,5 +1,6 @@
 -- The answer to a request about a sheet, in bytes: one line, or the script.
 use Prim.Native.Nat.{ℕ}
+use mathlib.Core.Bool.{true, false}
 use mathlib.Core.List.{List, _++_}
 use mathlib.Core.Option.{Option, none, some}
 use lib.IntN.{ℤ}
@@ -10,24 +11,33 @@ use Rattle.meaning.specs.Cases.{firstFailure, held, failed}
 use Rattle.layout.specs.Parts.{ruleIn}
 use Rattle.reading.specs.Cascade.{refusalOf}
 use Rattle.cases.specs.Checks.{tryRefusal}
+use Rattle.wording.specs.Form.{Form, sixteen}
 use Rattle.wording.specs.Script.{script}
 use Rattle.phrases.specs.Phrases.{numbersLine, refusalLine, nameValues}
 use Rattle.answers.specs.declared.Request.{Request}
-use Rattle.answers.specs.declared.Request.the-variants.{Read, Script, Check, Tally}
+use Rattle.answers.specs.declared.Request.the-variants.{Read, Script, Ask, Check, Tally}
 
 -- the text where nothing is refused, else the refusal's line
 unfoldable pub answered : Option Refusal → List ℕ → List ℕ
 answered none t = t
 answered (some r) t = refusalLine r
 
--- the check's line, by the first failing case
+-- the line of a failing case; the check's line, by the first such case
+unfoldable pub failing : Rule → List ℤ → List ℕ
+failing r c = ascii "fails" ++ nameValues (r .variables) c ++ ascii "\n"
+
 unfoldable pub checkLine : Rule → Option (List ℤ) → List ℕ
 checkLine r none = ascii "holds\n"
-checkLine r (some c) = ascii "fails" ++ nameValues (r .variables) c ++ ascii "\n"
+checkLine r (some c) = failing r c
+
+-- the script in a form
+unfoldable pub scriptAnswer : Form → List ℕ → List ℕ
+scriptAnswer f s = answered (refusalOf s) (script f (ruleIn s))
 
 -- the answer to a request about the sheet s
 unfoldable pub answerText : Request → List ℕ → List ℕ
 answerText Read s = answered (refusalOf s) (ascii "accepted\n")
-answerText Script s = answered (refusalOf s) (script (ruleIn s))
+answerText Script s = scriptAnswer (sixteen false) s
+answerText Ask s = scriptAnswer (sixteen true) s
 answerText Check s = answered (tryRefusal s) (checkLine (ruleIn s) (firstFailure (ruleIn s)))
 answerText Tally s = answered (tryRefusal s) (numbersLine (ascii "held ") (held (ruleIn s)) (ascii " failed ") (failed (ruleIn s)))

@@ -4,17 +4,22 @@ ghost use lib.ListN.{length};
 ghost use Rattle.io.specs.Counts.{Counts};
 ghost use Rattle.room.specs.Room.{Wrote};
 ghost use Rattle.writer.specs.Writes.{enoughRoom};
-ghost use Rattle.answers.specs.Answers.{answerText};
-ghost use Rattle.answers.specs.declared.Request.the-variants.{Read, Script, Check, Tally};
+ghost use Rattle.wording.specs.Form.{formOf};
+ghost use Rattle.answers.specs.Answers.{scriptAnswer, answerText};
+ghost use Rattle.answers.specs.Replies.{WroteReply};
+ghost use Rattle.answers.specs.declared.Request.the-variants.{Read, Check, Tally};
 use cases::Checked;
 use layout::MOST_VARIABLES;
 use refusals::Reading;
+use trial::Replied;
+use wording::ScriptForm;
 use writer::Written;
 
 // What is asked of a sheet.
 pub enum Request {
     Read,
     Script,
+    Ask,
     Check,
     Tally,
 }
@@ -31,11 +36,11 @@ fn read_answer(sheet: &[u8], room: &mut [u8]) -> usize
 }
 
 // The script, or the refusal; no script is longer than the room.
-fn script_answer(sheet: &[u8], room: &mut [u8]) -> usize
+fn script_answer(sheet: &[u8], form: ScriptForm, room: &mut [u8]) -> usize
     requires { ⌜ enoughRoom ≤ length (now room) ⌝ }
-    ensures { λ r. ⌜ Wrote (answerText Script (now (sheet .entry))) (now (room .entry)) (now (room .exit)) 0 r ⌝ }
+    ensures { λ r. ⌜ Wrote (scriptAnswer (formOf form) (now (sheet .entry))) (now (room .entry)) (now (room .exit)) 0 r ⌝ }
 {
-    match writer::write_script(sheet, room) {
+    match writer::write_script(sheet, form, room) {
         Written::Script(size) => size,
         Written::Refused(refusal) => phrases::refused_line(room, refusal),
     }
@@ -83,8 +88,23 @@ pub fn answer(request: Request, sheet: &[u8], room: &mut [u8]) -> usize
 {
     match request {
         Request::Read => read_answer(sheet, room),
-        Request::Script => script_answer(sheet, room),
+        Request::Script => script_answer(sheet, ScriptForm { models: false }, room),
+        Request::Ask => script_answer(sheet, ScriptForm { models: true }, room),
         Request::Check => check_answer(sheet, room),
         Request::Tally => tally_answer(sheet, room),
+    }
+}
+
+// What a solver's reply comes to: that unsat is claimed, the failing case, or the refusal; at the front of the room.
+pub fn reply_answer(sheet: &[u8], reply: &[u8], room: &mut [u8]) -> usize
+    requires { ⌜ enoughRoom ≤ length (now room) ⌝ }
+    ensures { λ r. ⌜ WroteReply (now (sheet .entry)) (now (reply .entry)) (now (room .entry)) (now (room .exit)) r ⌝ }
+    ensures { λ r. ⌜ Counts r (now (room .exit)) ⌝ }
+{
+    let mut row = [0i16; MOST_VARIABLES];
+    match trial::reply_into(sheet, reply, &mut row) {
+        Replied::Unsat => room::put(room, 0, b"unsat claimed\n"),
+        Replied::Fails => phrases::fails_line(sheet, &row, room),
+        Replied::Refused(refusal) => phrases::refused_line(room, refusal),
     }
 }

@@ -1,5 +1,5 @@
 -- The answers of the C interface as one number each (include/ragwashin.h).
-use Prim.Native.Nat.{ℕ, zero, suc, _+_, _*_, _/_, _%_, _^_}
+use Prim.Native.Nat.{ℕ, zero, suc, _+_, _-_, _*_, _/_, _%_, _^_, _<_}
 use mathlib.Core.Path.{_≡_}
 use mathlib.Core.Bool.{Bool, cond, _&&_}
 use mathlib.Core.List.{List}
@@ -15,8 +15,14 @@ use Rattle.layout.specs.Parts.{variableCount, nameSize, ruleIn}
 use Rattle.reading.specs.Cascade.{refusalOf}
 use Rattle.cases.specs.Checks.{tryRefusal, checkRefusal, isSome, roomAfter}
 use Rattle.cases.specs.Tallies.{unlessRefused}
+use Rattle.wording.specs.Form.{Form}
 use Rattle.wording.specs.Script.{script}
 use Rattle.writer.specs.Writes.{scriptRefusal, scriptRoom}
+use Rattle.digits.specs.Hashes.{digitsPlace, digitsSize}
+use Rattle.trial.specs.declared.Replied.{Replied}
+use Rattle.trial.specs.declared.Replied.the-variants.{Unsat, Fails, Refused}
+use Rattle.trial.specs.Replies.{Replies}
+use Rattle.trial.specs.Digits.{DigitsGiven}
 
 -- high 16 bits the refusal's number, low 48 bits its place
 abbrev pub refusalCode : Refusal → ℕ
@@ -62,7 +68,27 @@ countsCode h f = h * 2 ^ 24 + f
 abbrev pub tallyCode : List ℕ → ℕ
 tallyCode s = codeOf (tryRefusal s) (countsCode (held (ruleIn s)) (failed (ruleIn s)))
 
--- the script: the bytes written, and the room as `write_script` leaves it
-pub record ScriptCodes (s before : List ℕ) (r : ℕ) (after : List ℕ) : Type 0 where
-  pub code : r ≡ codeOf (scriptRefusal s (length before)) (length (script (ruleIn s)))
-  pub room : after ≡ scriptRoom (scriptRefusal s (length before)) (script (ruleIn s)) before
+-- a script: the bytes written, and the room as `write_script` leaves it
+pub record ScriptCodes (f : Form) (s before : List ℕ) (r : ℕ) (after : List ℕ) : Type 0 where
+  pub code : r ≡ codeOf (scriptRefusal f s (length before)) (length (script f (ruleIn s)))
+  pub room : after ≡ scriptRoom (scriptRefusal f s (length before)) (script f (ruleIn s)) before
+
+-- a place in a reply that 48 bits don't hold is told as the greatest that they do
+abbrev pub tellable : ℕ → ℕ
+tellable place = cond (ltb place (2 ^ 48)) place (2 ^ 48 - 1)
+
+-- a reply: 0 where unsat is claimed, 1 where the case fails
+abbrev pub replyCode : Replied → ℕ
+replyCode Unsat = 0
+replyCode Fails = 1
+replyCode (Refused r) = refusalCode (record { number = r .number; place = tellable (r .place) })
+
+pub record ReplyCodes (s reply : List ℕ) (r : ℕ) : Type 0 where
+  pub answer : Replied
+  pub replies : Replies s reply answer
+  pub code : r ≡ replyCode answer
+
+-- a variable's digits: their offset in the reply times 65,536 plus their number; 0 where none are given or 48 bits don't hold the offset
+pub record DigitsCodes (s reply : List ℕ) (i r : ℕ) : Type 0 where
+  pub given : DigitsGiven s reply i → digitsPlace i reply < 2 ^ 48 → r ≡ digitsPlace i reply * 65536 + digitsSize i reply
+  pub absent : (DigitsGiven s reply i → digitsPlace i reply < 2 ^ 48 → ⊥) → r ≡ 0

@@ -1,12 +1,16 @@
 // The C interface: the calls on numbers and slices, each answer one number. See include/ragwashin.h.
 ghost use mathlib.Core.Path.{_≡_};
 ghost use Prim.Native.Nat.{_<_, _^_};
-ghost use Rattle.capi.specs.Codes.{readCode, nameCode, blockCode, refusalCode, CheckCodes, tallyCode, ScriptCodes};
+ghost use mathlib.Core.Bool.{true, false};
+ghost use Rattle.wording.specs.Form.{sixteen, formOf};
+ghost use Rattle.capi.specs.Codes.{readCode, nameCode, blockCode, refusalCode, CheckCodes, tallyCode, ScriptCodes, tellable, ReplyCodes, DigitsCodes};
 use cases::Checked;
 use layout::NAME_START;
 use numbers::VariableNumber;
 use refusals::Reading;
 use refusals::Refusal;
+use trial::Replied;
+use wording::ScriptForm;
 use writer::Written;
 
 const NUMBER: u64 = 281474976710656;
@@ -78,13 +82,64 @@ pub extern "C" fn ragwashin_tally(sheet: &[u8]) -> u64
     }
 }
 
-#[no_mangle]
-pub extern "C" fn ragwashin_script(sheet: &[u8], room: &mut [u8]) -> u64
-    ensures { λ r. ⌜ ScriptCodes (now (sheet .entry)) (now (room .entry)) r (now (room .exit)) ⌝ }
+// What the writer answers, as one number.
+fn script_code(sheet: &[u8], form: ScriptForm, room: &mut [u8]) -> u64
+    ensures { λ r. ⌜ ScriptCodes (formOf form) (now (sheet .entry)) (now (room .entry)) r (now (room .exit)) ⌝ }
 {
-    let written = writer::write_script(sheet, room);
+    let written = writer::write_script(sheet, form, room);
     match written {
         Written::Script(size) => size as u64,
         Written::Refused(refusal) => refusal_code(refusal),
     }
+}
+
+#[no_mangle]
+pub extern "C" fn ragwashin_script(sheet: &[u8], room: &mut [u8]) -> u64
+    ensures { λ r. ⌜ ScriptCodes (sixteen false) (now (sheet .entry)) (now (room .entry)) r (now (room .exit)) ⌝ }
+{
+    script_code(sheet, ScriptForm { models: false }, room)
+}
+
+#[no_mangle]
+pub extern "C" fn ragwashin_ask(sheet: &[u8], room: &mut [u8]) -> u64
+    ensures { λ r. ⌜ ScriptCodes (sixteen true) (now (sheet .entry)) (now (room .entry)) r (now (room .exit)) ⌝ }
+{
+    script_code(sheet, ScriptForm { models: true }, room)
+}
+
+// A place that 48 bits hold: itself, or the greatest.
+fn told_place(place: usize) -> usize
+    ensures { λ r. ⌜ (r ≡ tellable place) × (r < 2 ^ 48) ⌝ }
+{
+    if place < NUMBER as usize {
+        return place;
+    }
+    NUMBER as usize - 1
+}
+
+#[no_mangle]
+pub extern "C" fn ragwashin_reply(sheet: &[u8], reply: &[u8]) -> u64
+    ensures { λ r. ⌜ ReplyCodes (now (sheet .entry)) (now (reply .entry)) r ⌝ }
+{
+    let replied = trial::reply(sheet, reply);
+    match replied {
+        Replied::Unsat => 0,
+        Replied::Fails => 1,
+        Replied::Refused(refusal) => refusal_code(Refusal {
+            number: refusal.number,
+            place: told_place(refusal.place),
+        }),
+    }
+}
+
+#[no_mangle]
+pub extern "C" fn ragwashin_digits(sheet: &[u8], reply: &[u8], variable: u16) -> u64
+    ensures { λ r. ⌜ DigitsCodes (now (sheet .entry)) (now (reply .entry)) variable r ⌝ }
+{
+    let span = trial::digits_span(sheet, reply, VariableNumber(variable));
+    let start = span.start as u64;
+    if start < NUMBER {
+        return start * OFFSET + span.size as u64;
+    }
+    0
 }

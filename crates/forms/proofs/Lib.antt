@@ -1,8 +1,13 @@
+pub mod Digits
+pub mod Decimals
 pub mod Sexps
 pub mod Spelt
 pub mod Read
 pub mod Forms
+pub mod Sixteen
 pub mod Bits
+pub mod Held
+pub mod Back
 pub mod Injective
 pub mod MeansTrees
 pub mod Means

@@ -27,7 +27,9 @@ use Rattle.smtlib.specs.Tokens.{Atom}
 use Rattle.smtlib.specs.Values.{truth}
 use Rattle.smtlib.specs.Terms.{Environment, value}
 use Rattle.smtlib.specs.Satisfaction.{isTrue, allTrue}
+use Rattle.wording.specs.Form.{Form}
 use Rattle.wording.specs.Script.{inDomain, claims}
+use Rattle.forms.specs.Readable.{Readable}
 use Rattle.forms.specs.Width.{WidthHolds}
 use Rattle.forms.proofs.Sexps.{sexp, asked}
 use Rattle.forms.proofs.MeansTrees.{NoWrap, Below, all-below, all-within}
@@ -86,22 +88,22 @@ module _ {w v : ℕ} {constant : ℤ → Atom} {name : ℕ → List ℕ} {ρ : �
         first d ds (suc j) n l q = ds j n (omega arith) (omega arith)
 
 -- the symbols may hold any integers of w bits
-pub claims-exactly : {w : ℕ} {constant : ℤ → Atom} {name : ℕ → List ℕ} {r : Rule} {c : List ℤ} {env : Environment} → 1 ≤ w → WidthHolds w r
-    → Integers w (length (r .variables)) c → Holding w (length (r .variables)) constant name (valueIn c) env → (allTrue env (asked constant name w r .asserts) ≡ true) ↔ Failing r c
+pub claims-exactly : {f : Form} {m : ℕ} (form : Readable f m) {r : Rule} {c : List ℤ} {env : Environment} → WidthHolds (f .width) r
+    → Integers (f .width) (length (r .variables)) c → Holding (f .width) (length (r .variables)) (form .constant) (f .symbol) (valueIn c) env → (allTrue env (asked form r .asserts) ≡ true) ↔ Failing r c
 unfolding Cases·holds
-claims-exactly {w} {constant} {name} {r} {c} {env} one m k h = (to, from)
+claims-exactly form {r} {c} {env} m k h = (to, from)
   where
-    all : Decides (allTrue env (asked constant name w r .asserts)) (InDomains one h 0 (r .variables) × (holds one h (neg (r .goal)) ≡ true))
-    all = claims-true one h (λ n l. k .each n (omega (arith, k .all))) (r .goal) 0 (r .variables) (omega arith) (m .low) (m .high)
+    all : Decides (allTrue env (asked form r .asserts)) (InDomains (form .texts .some-bits) h 0 (r .variables) × (holds (form .texts .some-bits) h (neg (r .goal)) ≡ true))
+    all = claims-true (form .texts .some-bits) h (λ n l. k .each n (omega (arith, k .all))) (r .goal) 0 (r .variables) (omega arith) (m .low) (m .high)
 
-    goal-is : Case r c → holds one h (neg (r .goal)) ≡ not (meant (valueIn c) (r .goal))
-    goal-is a = goal-claim one h (r .goal) (all-within m a) (all-below m)
+    goal-is : Case r c → holds (form .texts .some-bits) h (neg (r .goal)) ≡ not (meant (valueIn c) (r .goal))
+    goal-is a = goal-claim (form .texts .some-bits) h (r .goal) (all-within m a) (all-below m)
 
-    to : allTrue env (asked constant name w r .asserts) ≡ true → Failing r c
+    to : allTrue env (asked form r .asserts) ≡ true → Failing r c
     to e =
         let p = all .0 e in
         let a : Case r c = record { all = k .all; each = λ i l. p .0 i i (omega (arith, k .all)) (omega arith) } in
         (a, not-true (meant (valueIn c) (r .goal)) (sym (goal-is a) ∙ p .1))
 
-    from : Failing r c → allTrue env (asked constant name w r .asserts) ≡ true
-    from f = all .1 (λ j n l q. let e : n ≡ j = omega arith in rw e (f .0 .each j (omega (arith, k .all))), goal-is (f .0) ∙ ap not (f .1))
+    from : Failing r c → allTrue env (asked form r .asserts) ≡ true
+    from b = all .1 (λ j n l q. let e : n ≡ j = omega arith in rw e (b .0 .each j (omega (arith, k .all))), goal-is (b .0) ∙ ap not (b .1))

@@ -12,10 +12,9 @@ use Rattle.numbers.specs.Ranges.{In}
 use Rattle.numbers.proofs.Zed.{zed}
 use Rattle.meaning.specs.Rule.{Rule, Case}
 use Rattle.meaning.specs.Cases.{Failing}
-use Rattle.smtlib.specs.Tokens.{Atom}
-use Rattle.smtlib.specs.Terms.{numberOf}
 use Rattle.smtlib.specs.Satisfaction.{Meets}
-use Rattle.forms.specs.Form.{Texts}
+use Rattle.wording.specs.Form.{Form}
+use Rattle.forms.specs.Readable.{Readable}
 use Rattle.forms.specs.Width.{WidthHolds}
 use Rattle.forms.proofs.Sexps.{asked}
 use Rattle.forms.proofs.MeansSettings.{Integers, encs-inj, fits-exactly, holding}
@@ -32,26 +31,25 @@ case-integers h k = record { all = k .all; each = λ i l. in-within (h .low i (o
 pub one-case : {w : ℕ} {r : Rule} {b c : List ℤ} → 1 ≤ w → WidthHolds w r → Case r b → Case r c → map (enc w) b ≡ map (enc w) c → b ≡ c
 one-case one h p q e = encs-inj one (case-integers h p) (case-integers h q) e
 
-module _ {constant : ℤ → Atom} {name : ℕ → List ℕ} {width : List ℕ} {m : ℕ} (texts : Texts constant name width m)
-    {r : Rule} (few : length (r .variables) ≤ m) (h : WidthHolds (numberOf 10 width) r) where
+module _ {f : Form} {m : ℕ} (form : Readable f m) {r : Rule} (few : length (r .variables) ≤ m) (h : WidthHolds (f .width) r) where
   -- the width
   abbrev w : ℕ
-  w = numberOf 10 width
+  w = f .width
 
   -- integers of w bits meet the script exactly where they are a failing case
-  pub integers-meet : {c : List ℤ} → Integers w (length (r .variables)) c → Meets (asked constant name w r) (map (enc w) c) ↔ Failing r c
+  pub integers-meet : {c : List ℤ} → Integers w (length (r .variables)) c → Meets (asked form r) (map (enc w) c) ↔ Failing r c
   integers-meet {c} k =
-      let claims = claims-exactly (texts .some-bits) h k (holding texts (r .variables) few c (k .all)) in
-      (λ m. claims .0 (m .holds), λ f. record { assigns = fits-exactly constant name w (texts .some-bits) (r .variables) _ .1 (c, k, refl); holds = claims .1 f })
+      let claims = claims-exactly form h k (holding form (r .variables) few c (k .all)) in
+      (λ m. claims .0 (m .holds), λ b. record { assigns = fits-exactly form (r .variables) _ .1 (c, k, refl); holds = claims .1 b })
 
   -- a setting meets the script exactly where it is a failing case's
-  pub meets-exactly : (s : List ℕ) → Meets (asked constant name w r) s ↔ ((c : List ℤ) × Failing r c × (map (enc w) c ≡ s))
+  pub meets-exactly : (s : List ℕ) → Meets (asked form r) s ↔ ((c : List ℤ) × Failing r c × (map (enc w) c ≡ s))
   meets-exactly s = (to, from)
     where
-      to : Meets (asked constant name w r) s → (c : List ℤ) × Failing r c × (map (enc w) c ≡ s)
+      to : Meets (asked form r) s → (c : List ℤ) × Failing r c × (map (enc w) c ≡ s)
       to m =
-          let p = fits-exactly constant name w (texts .some-bits) (r .variables) s .0 (m .assigns) in
+          let p = fits-exactly form (r .variables) s .0 (m .assigns) in
           (p .0, integers-meet (p .1) .0 (rw (p .2) m), p .2)
 
-      from : (c : List ℤ) × Failing r c × (map (enc w) c ≡ s) → Meets (asked constant name w r) s
-      from p = subst (Meets (asked constant name w r)) (p .2) (integers-meet (case-integers h (p .1 .0)) .1 (p .1))
+      from : (c : List ℤ) × Failing r c × (map (enc w) c ≡ s) → Meets (asked form r) s
+      from p = subst (Meets (asked form r)) (p .2) (integers-meet (case-integers h (p .1 .0)) .1 (p .1))

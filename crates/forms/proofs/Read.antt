@@ -1,26 +1,21 @@
 -- SMT-LIB accepts the script of a well-formed rule, as its declarations, its ranges and its negated goal. Assumes nothing.
-use Prim.Native.Nat.{ℕ, zero, suc, _+_, _-_, _*_, _/_, _%_, _≤_, _<_}
-use mathlib.Core.Path.{_≡_, refl, sym, ap, _∙_}
+use Prim.Native.Nat.{ℕ, zero, suc, _+_, _≤_, _<_}
+use mathlib.Core.Path.{_≡_, refl, ap, _∙_}
 use mathlib.Core.Bool.{Bool, true, false}
 use mathlib.Core.List.{List, [], _∷_, _++_, map, append-assoc, append-nil}
 use mathlib.Core.Option.{none, some}
 use native.Mathlib.Omega.{arith}
-use lib.Dec.{eqb, lit≤}
 use lib.IntN.{ℤ}
 use lib.ListN.{length, getD}
-use borrow.Author.Tests.{eqb-true}
 use Rattle.lists.specs.Ascii.{ascii}
 use Rattle.lists.specs.Names.{sameBytes}
-use Rattle.lists.specs.Places.{allBelow}
-use Rattle.lists.proofs.TestLaws.{all-true}
+use Rattle.lists.proofs.Decided.{denied}
 use Rattle.lists.proofs.NameLaws.{same-decided}
 use Rattle.numbers.specs.declared.Range.{Range}
-use Rattle.numbers.specs.Two.{enc}
-use Rattle.numbers.proofs.Bytes16.{enc16-lt}
 use Rattle.meaning.specs.declared.Sort.{Sort}
 use Rattle.meaning.specs.declared.Sort.the-variants.{Truth, Integer}
-use Rattle.meaning.specs.Tree.{Tree}
-use Rattle.meaning.specs.Rule.{Variable, Rule, noVariable}
+use Rattle.meaning.specs.Tree.{Tree, neg}
+use Rattle.meaning.specs.Rule.{Variable, Rule, noVariable, domainOf}
 use Rattle.kinds.specs.declared.Kind.{Kind}
 use Rattle.kinds.specs.declared.Shape.{Shape}
 use Rattle.kinds.specs.declared.Shape.the-variants.{Wrong, Bare, Valued, Named, One, Two, Three}
@@ -29,39 +24,46 @@ use Rattle.kinds.specs.Rows.{make, Known}
 use Rattle.kinds.proofs.RowLaws.{Each, by-rows}
 use Rattle.kinds.proofs.ClaimLaws.{Throughout}
 use Rattle.layout.specs.Fold.{Found, ofTree}
-use Rattle.layout.specs.WellFormed.{FineVariable, Fine, WellFormed}
+use Rattle.layout.specs.WellFormed.{Fine, WellFormed}
 use Rattle.layout.proofs.Made.{FineMade, foundMade, fine-parts, throughout-fine, fine-throughout, found-make}
 use Rattle.smtlib.specs.Tokens.{Atom, symbol}
-use Rattle.smtlib.specs.Sexps.{Sexp, atom}
-use Rattle.smtlib.specs.Values.{Sort as SmtSort, bool, bitVec, Val, bits, sorted}
-use Rattle.smtlib.specs.Theory.{functions, otherNames, function, theoryName}
-use Rattle.smtlib.specs.Terms.{Environment, numberOf, value}
+use Rattle.smtlib.specs.Sexps.{Sexp, atom, cons, items}
+use Rattle.smtlib.specs.Values.{Sort as SmtSort, bool, bitVec, Val, bits, sorted, sortOf}
+use Rattle.smtlib.specs.Theory.{functions, function}
+use Rattle.smtlib.specs.Terms.{Environment, value}
 use Rattle.smtlib.specs.Commands.{Declaration, declareFun, commandOf}
 use Rattle.smtlib.specs.Settings.{environment, zeros}
-use Rattle.smtlib.specs.Scripts.{isDeclared, formula, gather, setsLogic, scriptIn}
+use Rattle.smtlib.specs.Scripts.{isDeclared, formula, wellSorted, gather, setsLogic, start, scriptIn}
 use Rattle.smtlib.proofs.NameLaws.{no-function, stands-here, stands-later}
-use Rattle.smtlib.proofs.TermLaws.{call1, call2, value-symbol, value-hexadecimal, value-constant, value-truths1, value-vectors1, value-left, value-right, value-relation, value-vectors2, value-order, value-choice}
-use Rattle.smtlib.proofs.CommandLaws.{declare-read, assert-read, check-read, exit-read, vector-read, begins, declares-next, asserts-next, asks-next, exits, declared-append, fresh-name}
-use Rattle.wording.specs.Sixteen.{symbolText}
-use Rattle.wording.specs.Script.{claims}
-use Rattle.forms.specs.Form.{Texts}
-use Rattle.forms.proofs.Sexps.{sexpBy, sexpStep, sexp, declareSexp, declareChain, assertChain, chainOf, declares, asked, hexDigits, constant16, width16}
+use Rattle.smtlib.proofs.TermLaws.{call1, call2, value-symbol, value-constant, value-truths1, value-vectors1, value-left, value-right, value-relation, value-vectors2, value-order, value-choice}
+use Rattle.smtlib.proofs.CommandLaws.{modelsOption, declare-read, assert-read, check-read, values-read, exit-read, vector-read, logic-next, models-on, declares-next, asserts-next, asks-next, values-next, exits, sorted-next, declared-append, fresh-name}
+use Rattle.wording.specs.Form.{Form}
+use Rattle.wording.specs.Script.{inDomain, claims}
+use Rattle.forms.specs.Readable.{Readable}
+use Rattle.forms.proofs.Decimals.{decimalDigits, decimal-number}
+use Rattle.forms.proofs.Sexps.{sexpBy, sexpStep, sexp, term, variableSexp, declareSexp, declareChain, assertChain, namesChain, valuesChain, modelsChain, logicChain, chainOf, declaredAt, declares, asked}
 
--- ---- the claims are as fine as the rule
-abbrev pub AllFine : ℕ → List (Tree Truth) → Type 0
-AllFine v [] = Unit {0}
-AllFine v (t ∷ ts) = Fine v t × AllFine v ts
+-- ---- what holds of each claim
+abbrev pub Every : (Tree Truth → Type 0) → List (Tree Truth) → Type 0
+Every P [] = Unit {0}
+Every P (t ∷ ts) = P t × Every P ts
 
-pub claims-fine : (r : Rule) → WellFormed r → AllFine (length (r .variables)) (claims 0 (r .variables) (r .goal))
-unfolding Throughout by-rows ofTree
-claims-fine r f = from 0 (r .variables) (omega arith) (f .variables)
+pub claims-every : (P : Tree Truth → Type 0) (r : Rule) → ((i : ℕ) → i < length (r .variables) → P (inDomain i (domainOf r i))) → P (neg (r .goal)) → Every P (claims 0 (r .variables) (r .goal))
+claims-every P r ranges goal = from 0 (r .variables) (λ j n l e. let d : n ≡ j = omega arith in rw d (ranges j l))
   where
-    from : (i : ℕ) (vs : List Variable) → i + length vs ≤ length (r .variables) → ((j : ℕ) → j < length vs → FineVariable (getD vs j noVariable)) → AllFine (length (r .variables)) (claims i vs (r .goal))
-    from i [] h e = (throughout-fine _ _ (tt, fine-throughout _ (r .goal) (f .goal)), tt)
-    from i (v ∷ vs) h e =
-        let b : i < length (r .variables) = omega arith in
-        let n = e 0 (omega arith) .ends in
-        (throughout-fine _ _ (tt, ((tt, ((n .low, tt), (b, tt))), (tt, ((b, tt), (n .high, tt))))), from (suc i) vs (omega arith) (λ j l. e (suc j) (omega arith)))
+    from : (i : ℕ) (vs : List Variable) → ((j n : ℕ) → j < length vs → n ≡ i + j → P (inDomain n (getD vs j noVariable .domain))) → Every P (claims i vs (r .goal))
+    from i [] e = (goal, tt)
+    from i (v ∷ vs) e = (e 0 i (omega arith) (omega arith), from (suc i) vs (λ j n l q. e (suc j) n (omega arith) (omega arith)))
+
+-- each is as fine as the rule
+claims-fine : (r : Rule) → WellFormed r → Every (Fine (length (r .variables))) (claims 0 (r .variables) (r .goal))
+unfolding Throughout by-rows ofTree
+claims-fine r f = claims-every (Fine (length (r .variables))) r range (throughout-fine _ _ (tt, fine-throughout _ (r .goal) (f .goal)))
+  where
+    range : (i : ℕ) → i < length (r .variables) → Fine (length (r .variables)) (inDomain i (domainOf r i))
+    range i b =
+        let n = f .variables i b .ends in
+        throughout-fine _ _ (tt, ((tt, ((n .low, tt), (b, tt))), (tt, ((b, tt), (n .high, tt)))))
 
 -- ---- a term's sort
 
@@ -127,110 +129,128 @@ module _ (constant : ℤ → Atom) (name : ℕ → List ℕ) (w v : ℕ) (env : 
       step k q x e f = rw (found-make k q x (sexpStep constant name)) (kind-sorted k _ (operands (row k .shape) x q e (fine-parts v k x f)))
 
 -- ---- the script's commands, for up to m variables
+module _ {f : Form} {m : ℕ} (form : Readable f m) where
+  -- a name names no function
+  pub free : (i : ℕ) → function (f .symbol i) ≡ none
+  free i = no-function (f .symbol i) (form .texts .theory i)
 
--- a name names no function
-pub free : {constant : ℤ → Atom} {name : ℕ → List ℕ} {digits : List ℕ} {m : ℕ} → Texts constant name digits m → (i : ℕ) → function (name i) ≡ none
-free {name} texts i = no-function (name i) (texts .theory i)
-
-module _ (constant : ℤ → Atom) (name : ℕ → List ℕ) (width : List ℕ) (m : ℕ) (texts : Texts constant name width m) where
-  abbrev size : ℕ
-  size = numberOf 10 width
-
-  abbrev declaredAt : ℕ → Declaration
-  declaredAt i = record { name = name i; sort = bitVec size }
-
-  apart : {i j : ℕ} → i < j → j < m → sameBytes (name i) (name j) ≡ false
-  apart {i} {j} l h = by (sameBytes (name i) (name j)) refl
-    where
-      by : (b : Bool) → sameBytes (name i) (name j) ≡ b → b ≡ false
-      by false e = refl
-      by true e =
-          let d : i ≡ j = texts .distinct i j (omega arith) h (same-decided (name i) (name j) .0 e) in
-          absurd (omega arith)
+  -- no earlier variable has a variable's name
+  pub apart : {i j : ℕ} → i < j → j < m → sameBytes (f .symbol i) (f .symbol j) ≡ false
+  apart {i} {j} l h = denied (same-decided (f .symbol i) (f .symbol j)) .1 (λ e. let d : i ≡ j = form .texts .distinct i j (omega arith) h e in omega arith)
 
   stands-from : (i : ℕ) (vs : List Variable) (s : List ℕ) (j k : ℕ) → k ≡ i + j → i + length vs ≤ m → length s ≡ length vs → j < length vs
-      → environment (declares constant name size i vs) s (name k) ≡ bits size (getD s j 0)
+      → environment (declares form i vs) s (f .symbol k) ≡ bits (f .width) (getD s j 0)
   stands-from i [] s j k e b l h = absurd (omega arith)
   stands-from i (v ∷ vs) [] j k e b l h = absurd (omega arith)
   stands-from i (v ∷ vs) (n ∷ s) zero k e b l h =
       let d : k ≡ i = omega arith in
-      stands-here (declaredAt i) (declares constant name size (suc i) vs) n s (name k) (rw d (same-decided (name i) (name i) .1 refl))
+      stands-here (declaredAt form i) (declares form (suc i) vs) n s (f .symbol k) (rw d (same-decided (f .symbol i) (f .symbol i) .1 refl))
   stands-from i (v ∷ vs) (n ∷ s) (suc j) k e b l h =
-      stands-later (declaredAt i) (declares constant name size (suc i) vs) n s (name k) (apart (omega arith) (omega arith))
+      stands-later (declaredAt form i) (declares form (suc i) vs) n s (f .symbol k) (apart (omega arith) (omega arith))
       ∙ stands-from (suc i) vs s j k (omega arith) (omega arith) (omega arith) (omega arith)
 
   -- the symbol of variable i stands for number i of the setting
-  pub symbol-stands : (vs : List Variable) → length vs ≤ m → (s : List ℕ) → length s ≡ length vs → (i : ℕ) → i < length vs → environment (declares constant name size 0 vs) s (name i) ≡ bits size (getD s i 0)
-  symbol-stands vs few s l i h = stands-from 0 vs s i i (omega arith) (omega arith) l h
+  module _ (vs : List Variable) (few : length vs ≤ m) (s : List ℕ) (l : length s ≡ length vs) where
+    pub symbol-stands : (i : ℕ) → i < length vs → value (environment (declares form 0 vs) s) (variableSexp form i) ≡ bits (f .width) (getD s i 0)
+    symbol-stands i h = value-symbol _ (f .symbol i) (free i) ∙ stands-from 0 vs s i i (omega arith) (omega arith) l h
+
+    -- so a tree's term has the sort of the tree
+    pub setting-sorted : {k : Sort} (t : Tree k) → Fine (length vs) t → Has (environment (declares form 0 vs) s) (sortFor (f .width) k) (term form t)
+    setting-sorted t g =
+        tree-sorted (form .constant) (f .symbol) (f .width) (length vs) _ (λ z. record { known = _; is = form .texts .constants _ z })
+        (λ i h. record { known = _; is = symbol-stands i h }) t g
 
   -- ---- declarations
-  declare-is : (i : ℕ) → commandOf (declareSexp constant name width i) ≡ declareFun (declaredAt i)
-  declare-is i = declare-read (name i) _ (vector-read width (texts .some-bits))
+  declare-is : (i : ℕ) → commandOf (declareSexp form i) ≡ declareFun (declaredAt form i)
+  declare-is i =
+      let e = decimal-number (f .width) in
+      declare-read (f .symbol i) _ (vector-read (decimalDigits (f .width)) (rw e (form .texts .some-bits)) ∙ ap (λ (w : ℕ). some (bitVec w)) e)
 
   -- no name from number i on is declared
   abbrev Free : List Declaration → ℕ → Type 0
-  Free ds i = (j : ℕ) → i ≤ j → j < m → isDeclared ds (name j) ≡ false
+  Free ds i = (j : ℕ) → i ≤ j → j < m → isDeclared ds (f .symbol j) ≡ false
 
-  free-next : (ds : List Declaration) (i : ℕ) → Free ds i → Free (ds ++ (declaredAt i ∷ [])) (suc i)
-  free-next ds i f j l h = declared-append ds (declaredAt i ∷ []) (name j) ∙ rw (f j (omega arith) h, apart l h)
+  free-next : (ds : List Declaration) (i : ℕ) → Free ds i → Free (ds ++ (declaredAt form i ∷ [])) (suc i)
+  free-next ds i g j l h = declared-append ds (declaredAt form i ∷ []) (f .symbol j) ∙ rw (g j (omega arith) h, apart l h)
 
   all-declared : (ds : List Declaration) (i : ℕ) (vs : List Variable) (s : Sexp) → Free ds i → i + length vs ≤ m
-      → gather ds [] false (declareChain constant name width i vs s) ≡ gather (ds ++ declares constant name size i vs) [] false s
-  all-declared ds i [] s f h = rw append-nil
-  all-declared ds i (v ∷ vs) s f h =
-      declares-next ds [] false _ _ (declare-is i) (fresh-name ds (name i) (texts .theory i) (texts .solver i) (f i (omega arith) (omega arith)))
-      ∙ all-declared (ds ++ (declaredAt i ∷ [])) (suc i) vs s (free-next ds i f) (omega arith)
-      ∙ ap (λ (l : List Declaration). gather l [] false s) (append-assoc ds (declaredAt i ∷ []) (declares constant name size (suc i) vs))
+      → gather (f .models) ds [] false false (declareChain form i vs s) ≡ gather (f .models) (ds ++ declares form i vs) [] false false s
+  all-declared ds i [] s g h = rw append-nil
+  all-declared ds i (v ∷ vs) s g h =
+      declares-next (f .models) ds [] false false _ _ (declare-is i) (fresh-name ds (f .symbol i) (form .texts .theory i) (form .texts .solver i) (g i (omega arith) (omega arith)))
+      ∙ all-declared (ds ++ (declaredAt form i ∷ [])) (suc i) vs s (free-next ds i g) (omega arith)
+      ∙ ap (λ (l : List Declaration). gather (f .models) l [] false false s) (append-assoc ds (declaredAt form i ∷ []) (declares form (suc i) vs))
 
   -- ---- assertions
-  zeros-length : (i : ℕ) (vs : List Variable) → length (zeros (declares constant name size i vs)) ≡ length vs
+  zeros-length : (i : ℕ) (vs : List Variable) → length (zeros (declares form i vs)) ≡ length vs
   zeros-length i [] = refl
   zeros-length i (v ∷ vs) = ap suc (zeros-length (suc i) vs)
 
   module _ (vs : List Variable) (few : length vs ≤ m) where
     abbrev ds : List Declaration
-    ds = declares constant name size 0 vs
+    ds = declares form 0 vs
 
-    -- in any setting, a tree's term has the sort of the tree
-    pub setting-sorted : (s : List ℕ) → length s ≡ length vs → {k : Sort} (t : Tree k) → Fine (length vs) t → Has (environment ds s) (sortFor size k) (sexp constant name t)
-    setting-sorted s l t f =
-        tree-sorted constant name size (length vs) (environment ds s) (λ z. record { known = _; is = texts .constants (environment ds s) z })
-        (λ i h. record { known = _; is = value-symbol (environment ds s) (name i) (free texts i) ∙ symbol-stands vs few s l i h }) t f
-
-    is-formula : (t : Tree Truth) → Fine (length vs) t → formula ds (sexp constant name t) ≡ true
+    is-formula : (t : Tree Truth) → Fine (length vs) t → formula ds (term form t) ≡ true
     unfolding formula
-    is-formula t f = rw (setting-sorted (zeros ds) (zeros-length 0 vs) t f .is)
+    is-formula t g = rw (setting-sorted vs few (zeros ds) (zeros-length 0 vs) t g .is)
 
-    all-asserted : (es : List Sexp) (ts : List (Tree Truth)) (s : Sexp) → AllFine (length vs) ts
-        → gather ds es false (assertChain constant name width ts s) ≡ gather ds (es ++ map (λ (t : Tree Truth). sexp constant name t) ts) false s
-    all-asserted es [] s f = rw append-nil
-    all-asserted es (t ∷ ts) s f =
-        asserts-next ds es false _ _ (assert-read (sexp constant name t)) (is-formula t (f .0))
-        ∙ all-asserted (es ++ (sexp constant name t ∷ [])) ts s (f .1)
-        ∙ ap (λ (l : List Sexp). gather ds l false s) (append-assoc es (sexp constant name t ∷ []) (map (λ (t : Tree Truth). sexp constant name t) ts))
+    all-asserted : (es : List Sexp) (ts : List (Tree Truth)) (s : Sexp) → Every (Fine (length vs)) ts
+        → gather (f .models) ds es false false (assertChain form ts s) ≡ gather (f .models) ds (es ++ map (λ (t : Tree Truth). term form t) ts) false false s
+    all-asserted es [] s g = rw append-nil
+    all-asserted es (t ∷ ts) s g =
+        asserts-next (f .models) ds es false false _ _ (assert-read (term form t)) (is-formula t (g .0))
+        ∙ all-asserted (es ++ (term form t ∷ [])) ts s (g .1)
+        ∙ ap (λ (l : List Sexp). gather (f .models) ds l false false s) (append-assoc es (term form t ∷ []) (map (λ (t : Tree Truth). term form t) ts))
+
+    -- ---- get-value, where there are models
+    names-sorted : (i : ℕ) (us : List Variable) → i + length us ≤ length vs → wellSorted ds (items (namesChain form i us)) ≡ true
+    unfolding wellSorted
+    names-sorted i [] h = refl
+    names-sorted i (u ∷ us) h =
+        let e = ap sortOf (symbol-stands vs few (zeros ds) (zeros-length 0 vs) i (omega arith)) in
+        sorted-next ds (variableSexp form i) (items (namesChain form (suc i) us)) e (names-sorted (suc i) us (omega arith))
+
+    values-asked : (us : List Variable) → length us ≤ length vs → (es : List Sexp) (s : Sexp) → gather true ds es true true (valuesChain form us s) ≡ gather true ds es true true s
+    values-asked [] h es s = refl
+    values-asked (u ∷ us) h es s = values-next ds es true _ s (values-read (variableSexp form 0) (namesChain form 1 us)) (names-sorted 0 (u ∷ us) (omega arith))
+
+    values-taken : (es : List Sexp) (s : Sexp) → gather (f .models) ds es true true (modelsChain form (valuesChain form vs) s) ≡ gather (f .models) ds es true true s
+    values-taken es s = by (f .models)
+      where
+        by : (b : Bool) → gather b ds es true true (elim b [ true ↦ valuesChain form vs s | false ↦ s ]) ≡ gather b ds es true true s
+        by true = values-asked vs (omega arith) es s
+        by false = refl
+
+  -- ---- set-option, where there are models
+  option-taken : (s : Sexp) → scriptIn (modelsChain form (cons modelsOption) s) ≡ start (f .models) s
+  unfolding scriptIn
+  option-taken s = by (f .models)
+    where
+      by : (b : Bool) → scriptIn (elim b [ true ↦ cons modelsOption s | false ↦ s ]) ≡ start b s
+      by true = models-on s
+      by false = refl
 
   -- ---- the whole
-  pub chain-read : (r : Rule) → length (r .variables) ≤ m → WellFormed r → scriptIn (chainOf constant name width r) ≡ some (asked constant name size r)
+  pub chain-read : (r : Rule) → length (r .variables) ≤ m → WellFormed r → scriptIn (chainOf form r) ≡ some (asked form r)
   unfolding sameBytes setsLogic
-  chain-read r few f =
-      begins _ _ refl
+  chain-read r few g =
+      option-taken (logicChain form r)
+      ∙ logic-next (f .models) _ _ refl
       ∙ all-declared [] 0 (r .variables) _ (λ j l h. refl) (omega arith)
-      ∙ all-asserted (r .variables) few [] (claims 0 (r .variables) (r .goal)) _ (claims-fine r f)
-      ∙ asks-next _ _ false _ _ check-read
-      ∙ exits _ _ _ exit-read
+      ∙ all-asserted (r .variables) few [] (claims 0 (r .variables) (r .goal)) _ (claims-fine r g)
+      ∙ asks-next (f .models) _ _ false false _ _ check-read
+      ∙ values-taken (r .variables) few _ _
+      ∙ exits (f .models) _ _ true _ exit-read
 
--- ---- what is asserted, in SMT-LIB's words
-module _ (constant : ℤ → Atom) (name : ℕ → List ℕ) where
-  abbrev term : {s : Sort} → Tree s → Sexp
-  term t = sexp constant name t
+  -- ---- what is asserted, in SMT-LIB's words
 
   -- a tree's term is made of its kind's word and the operands' terms
-  pub operators : (k : Kind) → Known (row k .shape) → (x : Args (row k .shape)) → term (make k x) ≡ sexpBy constant name (row k .shape) (row k .word) (foundMade (sexpStep constant name) (row k .shape) x)
-  operators k q x = found-make k q x (sexpStep constant name)
+  pub operators : (k : Kind) → Known (row k .shape) → (x : Args (row k .shape)) → term form (make k x) ≡ sexpBy (form .constant) (f .symbol) (row k .shape) (row k .word) (foundMade (sexpStep (form .constant) (f .symbol)) (row k .shape) x)
+  operators k q x = found-make k q x (sexpStep (form .constant) (f .symbol))
 
   -- (and (bvsle MIN NAME) (bvsle NAME MAX))
   abbrev pub rangeSexp : ℕ → Range → Sexp
-  rangeSexp i d = call2 (ascii "and") (call2 (ascii "bvsle") (atom (constant (d .low))) (atom (symbol (name i)))) (call2 (ascii "bvsle") (atom (symbol (name i))) (atom (constant (d .high))))
+  rangeSexp i d = call2 (ascii "and") (call2 (ascii "bvsle") (atom (form .constant (d .low))) (variableSexp form i)) (call2 (ascii "bvsle") (variableSexp form i) (atom (form .constant (d .high))))
 
   -- for each variable from number i on
   abbrev pub ranges : ℕ → List Variable → List Sexp
@@ -238,47 +258,10 @@ module _ (constant : ℤ → Atom) (name : ℕ → List ℕ) where
   ranges i (v ∷ vs) = rangeSexp i (v .domain) ∷ ranges (suc i) vs
 
   -- a range for each variable, and then the negated goal
-  pub asserts-are : (w : ℕ) (r : Rule) → asked constant name w r .asserts ≡ ranges 0 (r .variables) ++ (call1 (ascii "not") (term (r .goal)) ∷ [])
+  pub asserts-are : (r : Rule) → asked form r .asserts ≡ ranges 0 (r .variables) ++ (call1 (ascii "not") (term form (r .goal)) ∷ [])
   unfolding ofTree
-  asserts-are w r = from 0 (r .variables)
+  asserts-are r = from 0 (r .variables)
     where
-      from : (i : ℕ) (vs : List Variable) → map (λ (t : Tree Truth). term t) (claims i vs (r .goal)) ≡ ranges i vs ++ (call1 (ascii "not") (term (r .goal)) ∷ [])
+      from : (i : ℕ) (vs : List Variable) → map (λ (t : Tree Truth). term form t) (claims i vs (r .goal)) ≡ ranges i vs ++ (call1 (ascii "not") (term form (r .goal)) ∷ [])
       from i [] = refl
       from i (v ∷ vs) = ap (λ (l : List Sexp). rangeSexp i (v .domain) ∷ l) (from (suc i) vs)
-
--- ---- at 16 bits, and variables' numbers below 100
-
--- a constant: its four digits give its number
-pub hex-number : (x : ℕ) → x < 65536 → numberOf 16 (hexDigits x) ≡ x
-hex-number x h =
-    let a : 0 * 16 + x / 4096 % 16 ≡ x / 4096 = omega arith in
-    let b : x / 4096 * 16 + x / 256 % 16 ≡ x / 256 = omega arith in
-    let c : x / 256 * 16 + x / 16 % 16 ≡ x / 16 = omega arith in
-    let d : x / 16 * 16 + x % 16 ≡ x = omega arith in
-    rw (a, b, c, d)
-
-pub constant16-value : (env : Environment) (z : ℤ) → value env (atom (constant16 z)) ≡ bits 16 (enc 16 z)
-unfolding constant16
-constant16-value env z = value-hexadecimal env (hexDigits (enc 16 z)) ∙ ap (bits 16) (hex-number (enc 16 z) (enc16-lt z))
-
--- a variable: the number behind the letter
-abbrev pub numberIn : List ℕ → ℕ
-numberIn [] = 0
-numberIn (c ∷ ds) = numberOf 10 (map (λ d. d - 48) ds)
-
-pub symbol-number : (i : ℕ) → i < 100 → numberIn (symbolText i) ≡ i
-unfolding symbolText allBelow
-symbol-number i h = eqb-true (numberIn (symbolText i)) i (all-true (λ j. eqb (numberIn (symbolText j)) j) 100 refl i h)
-
-pub symbol-distinct : (i j : ℕ) → i < 100 → j < 100 → symbolText i ≡ symbolText j → i ≡ j
-symbol-distinct i j h k e = sym (symbol-number i h) ∙ ap numberIn e ∙ symbol-number j k
-
-pub texts16 : Texts constant16 symbolText width16 100
-unfolding sameBytes symbolText functions theoryName otherNames
-texts16 = record {
-  some-bits = lit≤ tt;
-  constants = constant16-value;
-  theory = λ i. refl;
-  solver = λ i. refl;
-  distinct = symbol-distinct;
-}

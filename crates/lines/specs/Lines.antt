@@ -1,21 +1,23 @@
 -- Follows the code: the lines of a script that are about variables, one by one, and how many bytes they are.
-use Prim.Native.Nat.{ℕ, _+_}
+use Prim.Native.Nat.{ℕ, zero, suc, _+_}
 use mathlib.Core.Path.{_≡_}
-use mathlib.Core.List.{List, _++_}
+use mathlib.Core.Bool.{false}
+use mathlib.Core.List.{List, [], _++_}
 use lib.ListN.{length}
 use Rattle.lists.specs.Ascii.{ascii}
 use Rattle.lists.specs.Joined.{joinedBelow}
 use Rattle.layout.specs.Parts.{variableAt}
-use Rattle.wording.specs.Sixteen.{hexText, literal, symbolText, widthText}
+use Rattle.wording.specs.Sixteen.{hexText, symbolText}
+use Rattle.wording.specs.Form.{sixteen}
 use Rattle.wording.specs.Script.{inDomain, declaration, assertion, ended}
 use Rattle.pieces.specs.Sizes.{constantBytes}
 
--- variable i's declaration line and range line
+-- variable i's declaration line and range line, the same with models and without
 unfoldable pub declarationLine : ℕ → List ℕ
-declarationLine i = ended (declaration literal symbolText widthText i)
+declarationLine i = ended (declaration (sixteen false) i)
 
 unfoldable pub rangeLine : List ℕ → ℕ → List ℕ
-rangeLine s i = ended (assertion literal symbolText widthText (inDomain i (variableAt s i .domain)))
+rangeLine s i = ended (assertion (sixteen false) (inDomain i (variableAt s i .domain)))
 
 -- the texts that stand around symbols and constants
 abbrev pub declare : List ℕ
@@ -36,12 +38,27 @@ blank = ascii " "
 abbrev pub closed : List ℕ
 closed = ascii ")))\n"
 
+abbrev pub getValue : List ℕ
+getValue = ascii "(get-value ("
+
+abbrev pub valuesEnd : List ℕ
+valuesEnd = ascii "))\n"
+
 -- a range line in two parts, by the bits of the ends
 unfoldable pub rangeStart : ℕ → ℕ → List ℕ
 rangeStart low i = lowest ++ hexText low ++ blank ++ symbolText i
 
 unfoldable pub rangeEnd : ℕ → ℕ → List ℕ
 rangeEnd i high = highest ++ symbolText i ++ blank ++ hexText high ++ closed
+
+-- the symbol of the variable behind variable i, and a blank before it
+abbrev pub furtherSymbol : ℕ → List ℕ
+furtherSymbol i = blank ++ symbolText (i + 1)
+
+-- the line that asks for the values of the first n variables
+unfoldable pub valuesLine : ℕ → List ℕ
+valuesLine zero = []
+valuesLine (suc n) = getValue ++ symbolText 0 ++ joinedBelow furtherSymbol n ++ valuesEnd
 
 -- how many bytes these are where the symbol has k
 abbrev pub declarationBytes : ℕ → ℕ
@@ -58,6 +75,13 @@ rangeBytes k = startBytes k + endBytes k
 
 abbrev pub linesBytes : ℕ → ℕ
 linesBytes k = declarationBytes k + rangeBytes k
+
+abbrev pub furtherBytes : ℕ → ℕ
+furtherBytes k = length blank + k
+
+-- the line that asks for values, but for the symbols and the blanks between them
+abbrev pub valuesBytes : ℕ
+valuesBytes = length getValue + length valuesEnd
 
 -- so many bytes are both lines of the first n variables, whatever the sheet
 pub record LinesSize (n size : ℕ) : Type 0 where

@@ -1,5 +1,6 @@
-// The lines of a script that are about variables, written into lent room: declarations and ranges.
+// The lines of a script that are about variables, written into lent room: declarations, ranges and values asked for.
 ghost use mathlib.Core.Path.{_≡_};
+ghost use mathlib.Core.List.{_++_};
 ghost use Prim.Native.Nat.{_+_, _≤_, _<_};
 ghost use lib.ListN.{length};
 ghost use Rattle.lists.specs.Joined.{joinedBelow};
@@ -7,7 +8,7 @@ ghost use Rattle.layout.specs.Limits.{blockBytes, mostVariables};
 ghost use Rattle.wording.specs.Sixteen.{symbolText};
 ghost use Rattle.room.specs.Room.{Wrote};
 ghost use Rattle.pieces.specs.Sizes.{longestSymbol};
-ghost use Rattle.lines.specs.Lines.{declarationLine, rangeStart, rangeEnd, rangeLine, declarationBytes, startBytes, endBytes, rangeBytes, linesBytes, LinesSize};
+ghost use Rattle.lines.specs.Lines.{declarationLine, rangeStart, rangeEnd, rangeLine, blank, furtherSymbol, valuesLine, declarationBytes, startBytes, endBytes, rangeBytes, linesBytes, furtherBytes, LinesSize};
 use numbers::VariableNumber;
 use pieces::BLANK;
 use pieces::CONSTANT_BYTES;
@@ -23,6 +24,10 @@ const HIGHEST: [u8; 9] = *b") (bvsle ";
 
 const CLOSED: [u8; 4] = *b")))\n";
 
+const GET_VALUE: [u8; 12] = *b"(get-value (";
+
+const VALUES_END: [u8; 3] = *b"))\n";
+
 // The bytes of a variable's two lines, but for its symbol, which stands three times in them.
 const PLAIN_BYTES: usize = DECLARE.len()
     + SORTED.len()
@@ -31,6 +36,9 @@ const PLAIN_BYTES: usize = DECLARE.len()
     + 2 * BLANK.len()
     + 2 * CONSTANT_BYTES
     + CLOSED.len();
+
+// The bytes of the line that asks for values, but for the symbols and the blanks between them.
+const VALUES_BYTES: usize = GET_VALUE.len() + VALUES_END.len();
 
 // A variable's declaration line.
 fn declaration(room: &mut [u8], at: usize, n: VariableNumber) -> usize
@@ -105,6 +113,43 @@ pub fn range_lines(sheet: &[u8], room: &mut [u8], at: usize, count: usize) -> us
     next
 }
 
+// A blank, and a variable's symbol.
+fn further_symbol(room: &mut [u8], at: usize, n: VariableNumber) -> usize
+    requires { ⌜ (n .0 < mostVariables) × (at + furtherBytes (length (symbolText (n .0))) ≤ length (now room)) ⌝ }
+    ensures { λ r. ⌜ Wrote (blank ++ symbolText (n .0)) (now (room .entry)) (now (room .exit)) at r ⌝ }
+{
+    let next = room::put(room, at, &BLANK);
+    pieces::symbol(room, next, n)
+}
+
+// The symbols of so many variables behind the first, a blank before each.
+fn further_symbols(room: &mut [u8], at: usize, others: usize) -> usize
+    requires { ⌜ (others < mostVariables) × (at + length (joinedBelow furtherSymbol others) ≤ length (now room)) ⌝ }
+    ensures { λ r. ⌜ Wrote (joinedBelow furtherSymbol others) (now (room .entry)) (now (room .exit)) at r ⌝ }
+{
+    let mut next = at;
+    let mut i: usize = 0;
+    while i < others {
+        i += 1;
+        next = further_symbol(room, next, VariableNumber(i as u16));
+    }
+    next
+}
+
+// The line that asks for the values of the first variables; none where there are none.
+pub fn values_line(room: &mut [u8], at: usize, count: usize) -> usize
+    requires { ⌜ (count ≤ mostVariables) × (at + length (valuesLine count) ≤ length (now room)) ⌝ }
+    ensures { λ r. ⌜ Wrote (valuesLine count) (now (room .entry)) (now (room .exit)) at r ⌝ }
+{
+    if count == 0 {
+        return at;
+    }
+    let p = room::put(room, at, &GET_VALUE);
+    let q = pieces::symbol(room, p, VariableNumber(0));
+    let r = further_symbols(room, q, count - 1);
+    room::put(room, r, &VALUES_END)
+}
+
 // The length of both lines of a variable.
 fn lines_len(n: VariableNumber) -> usize
     ensures { λ r. ⌜ r ≡ linesBytes (length (symbolText (n .0))) × (r ≤ linesBytes longestSymbol) ⌝ }
@@ -124,4 +169,30 @@ pub fn variables_len(count: usize) -> usize
         i += 1;
     }
     size
+}
+
+// The length of the symbols of so many variables behind the first, a blank before each.
+fn further_len(others: usize) -> usize
+    requires { ⌜ others < mostVariables ⌝ }
+    ensures { λ r. ⌜ r ≡ length (joinedBelow furtherSymbol others) ⌝ }
+{
+    let mut size = 0;
+    let mut i: usize = 0;
+    while i < others {
+        i += 1;
+        size += BLANK.len() + pieces::symbol_len(VariableNumber(i as u16));
+    }
+    size
+}
+
+// The length of the line that asks for values.
+pub fn values_len(count: usize) -> usize
+    requires { ⌜ count ≤ mostVariables ⌝ }
+    ensures { λ r. ⌜ r ≡ length (valuesLine count) ⌝ }
+{
+    if count == 0 {
+        return 0;
+    }
+    let first = pieces::symbol_len(VariableNumber(0));
+    VALUES_BYTES + first + further_len(count - 1)
 }

@@ -14,9 +14,9 @@ use Rattle.smtlib.specs.Sexps.{Sexp, atom, nil, cons, symbolIn, items, s
 use Rattle.smtlib.specs.Values.{Sort, bool, Val, Value, truth, bits, rejected, sortOf, onTruth, onTruths, onBits, onWidth, onSort, onChoice, fromLeft, fromRight, both, inChain, withEach, inPairs}
 use Rattle.smtlib.specs.Theory.{Attribute, two, left-assoc, right-assoc, chained, pairs, Signature, constant, truths1, truths2, relation, choice, vectors1, vectors2, order, Meaning, byAttribute, applied, FunctionRow, function}
 use Rattle.smtlib.specs.Terms.{Environment, symbolValue, atomValue, application, value, values}
-use Rattle.smtlib.specs.Commands.{Declaration, Command, declareFun, assertion, checkSat, exit, unknown, commandOf}
+use Rattle.smtlib.specs.Commands.{Declaration, Command, produceModels, declareFun, assertion, checkSat, exit, getValue, unknown, commandOf}
 use Rattle.smtlib.specs.Settings.{valueAt, Assigns, environment, zeros}
-use Rattle.smtlib.specs.Scripts.{Script, isBool, declarable, formula, gather, setsLogic, scriptIn}
+use Rattle.smtlib.specs.Scripts.{Script, isBool, declarable, formula, wellSorted, gather, setsLogic, start, scriptIn}
 use Rattle.smtlib.specs.Satisfaction.{scriptOf}
 use Rattle.smtlib.proofs.SortLaws.{formula-sort}
 
@@ -253,11 +253,11 @@ formulas-last ds (c ∷ es) e h f = (h .0, formulas-last ds es e (h .1) f)
 no-script : {p : Script} → none ≡ some p → ⊥
 no-script e = let z : _≡_ {A = ℕ} 0 1 = cc in omega arith
 
-gathered : (c : Sexp) (ds : List Declaration) (es : List Sexp) (asked : Bool) (p : Script) → Formulas ds es → gather ds es asked c ≡ some p → Formulas (p .declares) (p .asserts)
+gathered : (models : Bool) (c : Sexp) (ds : List Declaration) (es : List Sexp) (asked satMode : Bool) (p : Script) → Formulas ds es → gather models ds es asked satMode c ≡ some p → Formulas (p .declares) (p .asserts)
 unfolding gather
-gathered (atom a) ds es asked p f h = absurd (no-script h)
-gathered nil ds es asked p f h = absurd (no-script h)
-gathered (cons c s) ds es asked p f h = by (commandOf c) refl (gathered s)
+gathered models (atom a) ds es asked satMode p f h = absurd (no-script h)
+gathered models nil ds es asked satMode p f h = absurd (no-script h)
+gathered models (cons c s) ds es asked satMode p f h = by (commandOf c) refl (gathered models s)
   where
     ended : (q : Bool) (r : Sexp) → elim q as (λ _. Option Script) [ true ↦ exactly0 none (some (record { declares = ds; asserts = es })) (items r) | false ↦ none ] ≡ some p → Formulas (p .declares) (p .asserts)
     ended true nil e =
@@ -267,30 +267,46 @@ gathered (cons c s) ds es asked p f h = by (commandOf c) refl (gathered s)
     ended true (cons x r) e = absurd (no-script e)
     ended false r e = absurd (no-script e)
 
-    by : (k : Command) → commandOf c ≡ k → ((ds : List Declaration) (es : List Sexp) (asked : Bool) (p : Script) → Formulas ds es → gather ds es asked s ≡ some p → Formulas (p .declares) (p .asserts)) → Formulas (p .declares) (p .asserts)
+    by : (k : Command) → commandOf c ≡ k → ((ds : List Declaration) (es : List Sexp) (asked satMode : Bool) (p : Script) → Formulas ds es → gather models ds es asked satMode s ≡ some p → Formulas (p .declares) (p .asserts)) → Formulas (p .declares) (p .asserts)
+    by (produceModels b) e more = absurd (no-script (rw (e, gather) at h))
     by (declareFun d) e more = declares (declarable ds (d .name)) refl
       where
         declares : (q : Bool) → declarable ds (d .name) ≡ q → Formulas (p .declares) (p .asserts)
-        declares true t = more (ds ++ (d ∷ [])) es asked p (formulas-more ds d es f) (rw (e, gather, t) at h)
+        declares true t = more (ds ++ (d ∷ [])) es asked false p (formulas-more ds d es f) (rw (e, gather, t) at h)
         declares false t = absurd (no-script (rw (e, gather, t) at h))
     by (assertion t) e more = asserts (formula ds t) refl
       where
         asserts : (q : Bool) → formula ds t ≡ q → Formulas (p .declares) (p .asserts)
-        asserts true w = more ds (es ++ (t ∷ [])) false p (formulas-last ds es t f w) (rw (e, gather, w) at h)
+        asserts true w = more ds (es ++ (t ∷ [])) false false p (formulas-last ds es t f w) (rw (e, gather, w) at h)
         asserts false w = absurd (no-script (rw (e, gather, w) at h))
-    by checkSat e more = more ds es true p f (rw (e, gather) at h)
+    by (getValue ts) e more = values (models && (satMode && wellSorted ds ts)) refl
+      where
+        values : (q : Bool) → models && (satMode && wellSorted ds ts) ≡ q → Formulas (p .declares) (p .asserts)
+        values true w = more ds es asked satMode p f (rw (e, gather, w) at h)
+        values false w = absurd (no-script (rw (e, gather, w) at h))
+    by checkSat e more = more ds es true true p f (rw (e, gather) at h)
     by exit e more = ended asked s (rw (e, gather) at h)
     by unknown e more = absurd (no-script (rw (e, gather) at h))
 
-begun-formulas : (q : Bool) (s : Sexp) (p : Script) → elim q as (λ _. Option Script) [ true ↦ gather [] [] false s | false ↦ none ] ≡ some p → Formulas (p .declares) (p .asserts)
-begun-formulas true s p h = gathered s [] [] false p tt h
-begun-formulas false s p h = absurd (no-script h)
+started : (s : Sexp) (models : Bool) (p : Script) → start models s ≡ some p → Formulas (p .declares) (p .asserts)
+unfolding start
+started (atom a) models p h = absurd (no-script h)
+started nil models p h = absurd (no-script h)
+started (cons c s) models p h = by (setsLogic c) refl (commandOf c) refl (started s)
+  where
+    by : (q : Bool) → setsLogic c ≡ q → (k : Command) → commandOf c ≡ k → ((models : Bool) (p : Script) → start models s ≡ some p → Formulas (p .declares) (p .asserts)) → Formulas (p .declares) (p .asserts)
+    by true w k e more = gathered models s [] [] false false p tt (rw (w, start) at h)
+    by false w (produceModels b) e more = more b p (rw (w, e, start) at h)
+    by false w (declareFun d) e more = absurd (no-script (rw (w, e, start) at h))
+    by false w (assertion t) e more = absurd (no-script (rw (w, e, start) at h))
+    by false w checkSat e more = absurd (no-script (rw (w, e, start) at h))
+    by false w (getValue ts) e more = absurd (no-script (rw (w, e, start) at h))
+    by false w exit e more = absurd (no-script (rw (w, e, start) at h))
+    by false w unknown e more = absurd (no-script (rw (w, e, start) at h))
 
 script-formulas : (s : Sexp) (p : Script) → scriptIn s ≡ some p → Formulas (p .declares) (p .asserts)
 unfolding scriptIn
-script-formulas (atom a) p h = absurd (no-script h)
-script-formulas nil p h = absurd (no-script h)
-script-formulas (cons c s) p h = begun-formulas (setsLogic c) s p h
+script-formulas s p h = started s false p h
 
 -- every assertion is a formula of all that is declared
 pub accepted-formulas : (bytes : List ℕ) {p : Script} → scriptOf bytes ≡ some p → Formulas (p .declares) (p .asserts)

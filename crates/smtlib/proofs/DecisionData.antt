@@ -28,12 +28,16 @@ byZ3 =
     ∷ "(set-logic QF_BV)(declare-fun bvadd () Bool)(assert true)(check-sat)(exit)"
     ∷ "(set-logic QF_BV)(declare-fun concat () Bool)(assert true)(check-sat)(exit)"
     ∷ "(declare-fun x () Bool)(assert x)(check-sat)(exit)"
+    ∷ "(set-option :produce-models true)(declare-fun x () Bool)(assert x)(check-sat)(exit)"
+    ∷ "(set-logic QF_BV)(declare-fun x () Bool)(assert x)(set-option :produce-models true)(check-sat)(exit)"
+    ∷ "(set-logic QF_BV)(declare-fun x () Bool)(assert x)(check-sat)(get-value (x))(exit)"
     ∷ []
 
 -- cvc5 accepts these, and z3 refuses them
 abbrev pub byCvc5 : List (String)
 byCvc5 =
     "(set-logic QF_BV)\u{c}(assert true)(check-sat)(exit)"
+    ∷ "(set-option :produce-models true)(set-logic QF_BV)(declare-fun x () Bool)(assert x)(check-sat)(assert x)(get-value (x))(check-sat)(exit)"
     ∷ []
 
 -- both accept these, and SMT-LIB doesn't
@@ -42,6 +46,10 @@ againstStandard =
     "(set-logic QF_BV)(declare-fun NUMERAL () Bool)(assert true)(check-sat)(exit)"
     ∷ "(set-logic QF_BV)(declare-fun x () Bool)(declare-fun x () (_ BitVec 2))(assert true)(check-sat)(exit)"
     ∷ "(set-logic QF_BV)(assert true)(check-sat)(exit))"
+    ∷ "(set-logic QF_BV)(set-option :produce-models true)(declare-fun x () Bool)(assert x)(check-sat)(get-value (x))(exit)"
+    ∷ "(set-option :produce-models true)(set-logic QF_BV)(declare-fun x () Bool)(assert x)(check-sat)(declare-fun y () Bool)(get-value (x))(exit)"
+    ∷ "(set-option :produce-models true)(set-logic QF_BV)(declare-fun x () Bool)(assert x)(check-sat)(get-value (x))(declare-fun y () Bool)(get-value (y))(exit)"
+    ∷ "(set-option :produce-models true)(set-logic QF_BV)(declare-fun x () Bool)(assert x)(check-sat)(get-value (x 1))(exit)"
     ∷ []
 
 -- both accept these, as SMT-LIB does
@@ -62,15 +70,17 @@ notRead =
     ∷ "(set-logic QF_BV)(assert (= (_ bv2 2) #b10))(check-sat)(exit)"
     ∷ "(set-logic QF_BV)(assert (= ((_ extract 0 0) #b10) #b0))(check-sat)(exit)"
     ∷ "(set-logic QF_BV)(assert (= (bvudiv #b10 #b01) #b10))(check-sat)(exit)"
-    ∷ "(set-option :produce-models true)(set-logic QF_BV)(assert true)(check-sat)(exit)"
     ∷ "(set-logic QF_BV)(set-info :source \"a string\")(assert true)(check-sat)(exit)"
     ∷ "(set-logic QF_BV)(push 1)(assert true)(check-sat)(exit)"
+    ∷ "(set-option :print-success false)(set-logic QF_BV)(assert true)(check-sat)(exit)"
+    ∷ "(set-option :produce-models true)(set-logic QF_BV)(declare-fun x () Bool)(assert x)(check-sat)(get-value (x))(assert (not x))(exit)"
     ∷ []
 
 -- z3 accepts these, as SMT-LIB does, and cvc5 refuses them; with every setting that z3 finds to satisfy them
 abbrev pub readWithZ3 : List (String × List (List ℕ))
 readWithZ3 =
     ("(set-logic QF_BV)(declare-fun |a\nb| () Bool)(assert |a\nb|)(check-sat)(exit)", (1 ∷ []) ∷ [])
+    ∷ ("(set-option :produce-models |true|)(set-logic QF_BV)(declare-fun x () Bool)(assert x)(check-sat)(get-value (x))(exit)", (1 ∷ []) ∷ [])
     ∷ []
 
 -- cvc5 accepts these, as SMT-LIB does, and z3 refuses them or leaves a question unanswered; with every setting that cvc5 finds to satisfy them

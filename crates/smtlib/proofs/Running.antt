@@ -17,7 +17,7 @@ use Rattle.smtlib.specs.Theory.{functions, otherNames, function, theoryN
 use Rattle.smtlib.specs.Terms.{atomValue, value, values}
 use Rattle.smtlib.specs.Commands.{Declaration, sortIn, commands, commandOf}
 use Rattle.smtlib.specs.Settings.{sortSize, environment}
-use Rattle.smtlib.specs.Scripts.{Script, declarable, formula, gather, setsLogic, scriptIn}
+use Rattle.smtlib.specs.Scripts.{Script, declarable, formula, wellSorted, gather, setsLogic, start, scriptIn}
 use Rattle.smtlib.specs.Satisfaction.{scriptOf, allTrue}
 use Rattle.smtlib.proofs.Tests.{meeting}
 
@@ -31,7 +31,7 @@ unfolding sameBytes every digitChar letterChar symbolChar wordChar lineBreak whi
 termValue text = closedTerm (sexpsOf (ascii text))
 
 unfoldable pub scriptRead : String → Option Script
-unfolding termValue otherNames theoryName sortIn commands commandOf environment declarable formula gather setsLogic scriptIn scriptOf allTrue
+unfolding termValue otherNames theoryName sortIn commands commandOf environment declarable formula wellSorted gather setsLogic start scriptIn scriptOf allTrue
 scriptRead text = scriptOf (ascii text)
 
 -- every setting, the first symbol's number slowest

@@ -51,6 +51,18 @@ satisfied =
     ∷ ("(set-logic QF_BV)(declare-fun x () (_ BitVec 2))(declare-fun y () (_ BitVec 2))(assert (= (bvor x y #b01) (bvand #b11 x y #b01)))(check-sat)(exit)", (1 ∷ 1 ∷ []) ∷ [])
     ∷ ("(set-logic QF_BV)(declare-fun p () Bool)(declare-fun q () Bool)(declare-fun r () (_ BitVec 2))(assert (= (ite p (ite q #b00 #b01) (ite q #b10 #b11)) (bvadd r r)))(check-sat)(exit)", (0 ∷ 1 ∷ 1 ∷ []) ∷ (0 ∷ 1 ∷ 3 ∷ []) ∷ (1 ∷ 1 ∷ 0 ∷ []) ∷ (1 ∷ 1 ∷ 2 ∷ []) ∷ [])
     ∷ ("(set-logic QF_BV)(declare-fun p () Bool)(declare-fun x () (_ BitVec 1))(declare-fun y () (_ BitVec 1))(assert (= (ite p (bvslt x y) (bvult x y)) (= x #b1)))(check-sat)(exit)", (0 ∷ 0 ∷ 0 ∷ []) ∷ (1 ∷ 0 ∷ 0 ∷ []) ∷ (1 ∷ 0 ∷ 1 ∷ []) ∷ (1 ∷ 1 ∷ 0 ∷ []) ∷ [])
+    ∷ ("(set-option :produce-models true)(set-logic QF_BV)(assert true)(check-sat)(exit)", ([]) ∷ [])
+    ∷ ("(set-option :produce-models false)(set-logic QF_BV)(assert true)(check-sat)(exit)", ([]) ∷ [])
+    ∷ ("(set-option :produce-models true)(set-option :produce-models false)(set-logic QF_BV)(declare-fun x () Bool)(assert x)(check-sat)(exit)", (1 ∷ []) ∷ [])
+    ∷ ("(set-option :produce-models false)(set-option :produce-models true)(set-logic QF_BV)(declare-fun x () Bool)(assert x)(check-sat)(get-value (x))(exit)", (1 ∷ []) ∷ [])
+    ∷ ("; a comment\n(set-option ; and one more\n:produce-models\ttrue)\n(set-logic QF_UFBV)(declare-fun x () Bool)(assert x)(check-sat)(get-value(x))(exit)", (1 ∷ []) ∷ [])
+    ∷ ("(set-option :produce-models true)(set-logic QF_BV)(declare-fun x () (_ BitVec 2))(declare-fun y () (_ BitVec 2))(assert (bvult x y))(check-sat)(get-value (x y))(exit)", (0 ∷ 1 ∷ []) ∷ (0 ∷ 2 ∷ []) ∷ (0 ∷ 3 ∷ []) ∷ (1 ∷ 2 ∷ []) ∷ (1 ∷ 3 ∷ []) ∷ (2 ∷ 3 ∷ []) ∷ [])
+    ∷ ("(set-option :produce-models true)(set-logic QF_BV)(declare-fun x () (_ BitVec 2))(declare-fun y () Bool)(assert (= y (= x #b10)))(check-sat)(get-value ((bvadd x #b01) y (and y true) #b1 true))(exit)", (0 ∷ 0 ∷ []) ∷ (1 ∷ 0 ∷ []) ∷ (2 ∷ 1 ∷ []) ∷ (3 ∷ 0 ∷ []) ∷ [])
+    ∷ ("(set-option :produce-models true)(set-logic QF_BV)(declare-fun x () Bool)(assert x)(check-sat)(get-value (x))(get-value ((not x) |x| x))(exit)", (1 ∷ []) ∷ [])
+    ∷ ("(set-option :produce-models true)(set-logic QF_BV)(declare-fun x () Bool)(assert x)(check-sat)(get-value (x))(check-sat)(get-value (x))(exit)", (1 ∷ []) ∷ [])
+    ∷ ("(set-option :produce-models true)(set-logic QF_BV)(declare-fun x () Bool)(assert x)(check-sat)(declare-fun y () Bool)(check-sat)(get-value (x y))(exit)", (1 ∷ 0 ∷ []) ∷ (1 ∷ 1 ∷ []) ∷ [])
+    ∷ ("(set-option :produce-models true)(set-logic QF_BV)(declare-fun x () Bool)(assert x)(check-sat)(get-value (x))(declare-fun y () Bool)(assert (not y))(check-sat)(get-value (y x))(exit)", (1 ∷ 0 ∷ []) ∷ [])
+    ∷ ("(set-option :produce-models true)(set-logic QF_BV)(declare-fun x () Bool)(assert x)(check-sat)(get-value (x))(declare-fun y () Bool)(exit)", (1 ∷ 0 ∷ []) ∷ (1 ∷ 1 ∷ []) ∷ [])
     ∷ []
 
 -- accepted, with some settings and whether they satisfy them
@@ -173,4 +185,21 @@ refused =
     ∷ "(set-logic QF_BV)(assert true)(check-sat)(exit"
     ∷ "(set-logic QF_BV)(assert (and true true)))(check-sat)(exit)"
     ∷ ")(set-logic QF_BV)(assert true)(check-sat)(exit)"
+    ∷ "(set-option :produce-models)(set-logic QF_BV)(assert true)(check-sat)(exit)"
+    ∷ "(set-option :produce-models maybe)(set-logic QF_BV)(assert true)(check-sat)(exit)"
+    ∷ "(set-option :produce-models 1)(set-logic QF_BV)(assert true)(check-sat)(exit)"
+    ∷ "(set-option :produce-models true true)(set-logic QF_BV)(assert true)(check-sat)(exit)"
+    ∷ "(set-option produce-models true)(set-logic QF_BV)(assert true)(check-sat)(exit)"
+    ∷ "(set-option :produce-model true)(set-logic QF_BV)(assert true)(check-sat)(exit)"
+    ∷ "(set-option :produce-models false)(set-logic QF_BV)(declare-fun x () Bool)(assert x)(check-sat)(get-value (x))(exit)"
+    ∷ "(set-option :produce-models true)(set-option :produce-models false)(set-logic QF_BV)(declare-fun x () Bool)(assert x)(check-sat)(get-value (x))(exit)"
+    ∷ "(set-option :produce-models true)(set-logic QF_BV)(declare-fun x () Bool)(assert x)(get-value (x))(check-sat)(exit)"
+    ∷ "(set-option :produce-models true)(set-logic QF_BV)(declare-fun x () Bool)(assert x)(check-sat)(get-value)(exit)"
+    ∷ "(set-option :produce-models true)(set-logic QF_BV)(declare-fun x () Bool)(assert x)(check-sat)(get-value ())(exit)"
+    ∷ "(set-option :produce-models true)(set-logic QF_BV)(declare-fun x () Bool)(assert x)(check-sat)(get-value x)(exit)"
+    ∷ "(set-option :produce-models true)(set-logic QF_BV)(declare-fun x () Bool)(assert x)(check-sat)(get-value (x) (x))(exit)"
+    ∷ "(set-option :produce-models true)(set-logic QF_BV)(declare-fun x () Bool)(assert x)(check-sat)(get-value (not x))(exit)"
+    ∷ "(set-option :produce-models true)(set-logic QF_BV)(declare-fun x () Bool)(assert x)(check-sat)(get-value (x y))(exit)"
+    ∷ "(set-option :produce-models true)(set-logic QF_BV)(declare-fun x () Bool)(assert x)(check-sat)(get-value ((bvadd x #b1)))(exit)"
+    ∷ "(set-option :produce-models true)(set-logic QF_BV)(declare-fun x () Bool)(assert x)(check-sat)(get-value (x (not x x)))(exit)"
     ∷ []

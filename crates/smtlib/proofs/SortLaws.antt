@@ -16,7 +16,7 @@ use Rattle.smtlib.specs.Theory.{Attribute, two, left-assoc, right-assoc,
 use Rattle.smtlib.specs.Terms.{Environment, symbolValue, atomValue, application, value, values}
 use Rattle.smtlib.specs.Commands.{Declaration}
 use Rattle.smtlib.specs.Settings.{sortSize, valueAt, Assigns, environment, zeros}
-use Rattle.smtlib.specs.Scripts.{isBool, formula}
+use Rattle.smtlib.specs.Scripts.{isBool, termSort, formula}
 
 -- one value of each sort
 abbrev plainly : Option Sort → Value
@@ -247,7 +247,11 @@ pub formula-sort : (ds : List Declaration) (e : Sexp) → formula ds e ≡ true 
 unfolding formula
 formula-sort ds e h s f = setting-sort ds s (zeros ds) f (zeros-fit ds) e ∙ is-bool (sortOf (value (environment ds (zeros ds)) e)) h
 
--- and the other way round
+-- what has a sort in one setting is a term of that sort
+pub sort-term : (ds : List Declaration) (e : Sexp) (s : List ℕ) → Assigns ds s → {k : Sort} → sortOf (value (environment ds s) e) ≡ some k → termSort ds e ≡ some k
+sort-term ds e s f h = setting-sort ds (zeros ds) s (zeros-fit ds) f e ∙ h
+
+-- and a formula, if it is Bool
 pub sort-formula : (ds : List Declaration) (e : Sexp) (s : List ℕ) → Assigns ds s → sortOf (value (environment ds s) e) ≡ some bool → formula ds e ≡ true
 unfolding formula
-sort-formula ds e s f h = ap isBool (setting-sort ds (zeros ds) s (zeros-fit ds) f e ∙ h)
+sort-formula ds e s f h = ap isBool (sort-term ds e s f h)

@@ -1,7 +1,7 @@
 -- One script by way of the laws: its lines are printed and read back, and its settings are known. Assumes nothing.
 use Prim.Native.Nat.{ℕ, _<_}
 use mathlib.Core.Path.{_≡_, refl, sym, ap, _∙_}
-use mathlib.Core.Bool.{true, false, _&&_, false≢true}
+use mathlib.Core.Bool.{Bool, true, false, _&&_, false≢true}
 use mathlib.Core.List.{List, [], _∷_}
 use mathlib.Core.Option.{some}
 use lib.Dec.{lit<, lit≤}
@@ -17,15 +17,15 @@ use Rattle.smtlib.specs.Values.{bool, bitVec, truth, sortOf}
 use Rattle.smtlib.specs.Theory.{functions, otherNames, function, theoryName}
 use Rattle.smtlib.specs.Terms.{value}
 use Rattle.smtlib.specs.Settings.{environment}
-use Rattle.smtlib.specs.Scripts.{Script, setsLogic, scriptIn}
+use Rattle.smtlib.specs.Scripts.{Script, wellSorted, gather, setsLogic, start, scriptIn}
 use Rattle.smtlib.specs.Satisfaction.{scriptOf, declared, isTrue, allTrue, Satisfies}
 use Rattle.smtlib.proofs.Tests.{wellFormed, satisfiedBy}
 use Rattle.smtlib.specs.Spelling.{digitByte, Spelled}
 use Rattle.smtlib.proofs.Printing.{lines, Listing, lines-sexps}
 use Rattle.smtlib.proofs.Spelling.{spelled-symbol, spelled-reserved, spelled-hexadecimal, spelled-numeral}
 use Rattle.smtlib.proofs.TermLaws.{value-symbol, value-hexadecimal, value-order}
-use Rattle.smtlib.proofs.SortLaws.{sort-formula}
-use Rattle.smtlib.proofs.CommandLaws.{declare-read, assert-read, check-read, exit-read, vector-read, begins, declares-next, asserts-next, asks-next, exits, fresh-name}
+use Rattle.smtlib.proofs.SortLaws.{sort-term, sort-formula}
+use Rattle.smtlib.proofs.CommandLaws.{modelsOption, declare-read, assert-read, check-read, values-read, exit-read, vector-read, logic-next, models-on, declares-next, asserts-next, asks-next, values-next, exits, sorted-next, fresh-name}
 use Rattle.smtlib.proofs.Acceptance.{accepted-sorted}
 use Rattle.smtlib.proofs.DigitLaws.{Good, read-good}
 use Rattle.smtlib.proofs.Bounds.{Proper, setting-proper}
@@ -42,13 +42,19 @@ word1 n = atom (reserved n)
 abbrev claim : Sexp
 claim = cons (sym1 (ascii "bvslt")) (cons (sym1 (ascii "x")) (cons (atom (hexadecimal (10 ∷ []))) nil))
 
-abbrev sexps : Sexp
-sexps =
+-- from set-logic to check-sat, and what stands behind it
+abbrev asking : Sexp → Sexp
+asking s =
     cons (cons (word1 (ascii "set-logic")) (cons (sym1 (ascii "QF_BV")) nil))
     (cons (cons (word1 (ascii "declare-fun")) (cons (sym1 (ascii "x")) (cons nil (cons (cons (word1 (ascii "_")) (cons (sym1 (ascii "BitVec")) (cons (atom (numeral (4 ∷ []))) nil))) nil))))
     (cons (cons (word1 (ascii "assert")) (cons claim nil))
-    (cons (cons (word1 (ascii "check-sat")) nil)
-    (cons (cons (word1 (ascii "exit")) nil) nil))))
+    (cons (cons (word1 (ascii "check-sat")) nil) s)))
+
+abbrev leaving : Sexp
+leaving = cons (cons (word1 (ascii "exit")) nil) nil
+
+abbrev sexps : Sexp
+sexps = asking leaving
 
 abbrev text : List ℕ
 text = ascii "(set-logic QF_BV)\n(declare-fun x () (_ BitVec 4))\n(assert (bvslt x #xa))\n(check-sat)\n(exit)\n"
@@ -90,14 +96,27 @@ claim-value k =
     (value-symbol (environment (script .declares) (k ∷ [])) (ascii "x") refl) (value-hexadecimal (environment (script .declares) (k ∷ [])) (10 ∷ []))
 
 -- its commands, one by one
-commands-read : scriptIn sexps ≡ some script
+asking-read : (models : Bool) (s : Sexp) → start models (asking s) ≡ gather models (script .declares) (claim ∷ []) true true s
 unfolding sameBytes setsLogic theoryName function functions otherNames environment
-commands-read =
-    begins _ _ refl
-    ∙ declares-next [] [] false _ _ (declare-read (ascii "x") _ (vector-read (4 ∷ []) (lit≤ tt))) (fresh-name [] (ascii "x") refl refl refl)
-    ∙ asserts-next (script .declares) [] false _ _ (assert-read claim) (sort-formula (script .declares) claim (0 ∷ []) (lit< tt, tt) (ap sortOf (claim-value 0)))
-    ∙ asks-next (script .declares) (claim ∷ []) false _ _ check-read
-    ∙ exits (script .declares) (claim ∷ []) _ exit-read
+asking-read models s =
+    logic-next models _ _ refl
+    ∙ declares-next models [] [] false false _ _ (declare-read (ascii "x") _ (vector-read (4 ∷ []) (lit≤ tt))) (fresh-name [] (ascii "x") refl refl refl)
+    ∙ asserts-next models (script .declares) [] false false _ _ (assert-read claim) (sort-formula (script .declares) claim (0 ∷ []) (lit< tt, tt) (ap sortOf (claim-value 0)))
+    ∙ asks-next models (script .declares) (claim ∷ []) false false _ _ check-read
+
+commands-read : scriptIn sexps ≡ some script
+unfolding scriptIn
+commands-read = asking-read false leaving ∙ exits false (script .declares) (claim ∷ []) true _ exit-read
+
+-- with its values asked for it is the same script
+values-asked : scriptIn (cons modelsOption (asking (cons (cons (word1 (ascii "get-value")) (cons (cons (sym1 (ascii "x")) nil) nil)) leaving))) ≡ some script
+unfolding sameBytes environment function functions wellSorted
+values-asked =
+    let x-sort = sort-term (script .declares) (sym1 (ascii "x")) (0 ∷ []) (lit< tt, tt) (ap sortOf (value-symbol (environment (script .declares) (0 ∷ [])) (ascii "x") refl)) in
+    models-on _
+    ∙ asking-read true _
+    ∙ values-next (script .declares) (claim ∷ []) true _ _ (values-read (sym1 (ascii "x")) nil) (sorted-next (script .declares) (sym1 (ascii "x")) [] x-sort refl)
+    ∙ exits true (script .declares) (claim ∷ []) true _ exit-read
 
 text-script : scriptOf text ≡ some script
 unfolding scriptOf

@@ -11,7 +11,7 @@ use Rattle.smtlib.specs.Sexps.{Sexp, atom, nil, cons, symbolIn, reserved
 use Rattle.smtlib.specs.Values.{Sort, bool, bitVec, sortOf}
 use Rattle.smtlib.specs.Theory.{theoryName}
 use Rattle.smtlib.specs.Terms.{value}
-use Rattle.smtlib.specs.Commands.{Declaration, declareFun, assertion, checkSat, exit, unknown, named, commandOf}
+use Rattle.smtlib.specs.Commands.{Declaration, produceModels, declareFun, assertion, checkSat, exit, getValue, unknown, named, commandOf}
 use Rattle.smtlib.specs.Settings.{environment, zeros}
 
 pub record Script : Type 0 where
@@ -32,29 +32,46 @@ isDeclared (d ∷ ds) n = sameBytes (d .name) n || isDeclared ds n
 unfoldable pub declarable : List Declaration → List ℕ → Bool
 declarable ds n = not (theoryName n || (solverName n || isDeclared ds n))
 
--- ---- an assertion: a term of sort Bool, each of its symbols declared
+-- ---- a term: each of its symbols is declared, and it has a sort
 
+-- a term's sort is the same in every setting (proofs/SortLaws), so it is looked for in one
+abbrev pub termSort : List Declaration → Sexp → Option Sort
+termSort ds e = sortOf (value (environment ds (zeros ds)) e)
+
+-- an assertion's sort is Bool
 abbrev pub isBool : Option Sort → Bool
 isBool none = false
 isBool (some bool) = true
 isBool (some (bitVec m)) = false
 
--- a term's sort is the same in every setting (proofs/SortLaws), so it is looked for in one
 unfoldable pub formula : List Declaration → Sexp → Bool
-formula ds e = isBool (sortOf (value (environment ds (zeros ds)) e))
+formula ds e = isBool (termSort ds e)
+
+-- get-value's terms have any sorts
+abbrev pub hasSort : Option Sort → Bool
+hasSort none = false
+hasSort (some s) = true
+
+unfoldable pub wellSorted : List Declaration → List Sexp → Bool
+wellSorted ds [] = true
+wellSorted ds (e ∷ es) = hasSort (termSort ds e) && wellSorted ds es
 
 -- ---- the order of commands
 
 -- SMT-LIB asks for less; here a script is one question: a check-sat stands behind every assertion, and exit is the last command
 
--- the commands behind set-logic, with what is declared and asserted so far; asked: check-sat stands behind all that is asserted
-unfoldable pub gather : List Declaration → List Sexp → Bool → Sexp → Option Script
-gather ds es asked (atom a) = none
-gather ds es asked nil = none
-gather ds es asked (cons c s) = elim (commandOf c) [
-  | declareFun d ↦ elim (declarable ds (d .name)) [ true ↦ gather (ds ++ (d ∷ [])) es asked s | false ↦ none ]
-  | assertion e ↦ elim (formula ds e) [ true ↦ gather ds (es ++ (e ∷ [])) false s | false ↦ none ]
-  | checkSat ↦ gather ds es true s
+-- the commands behind set-logic, with what is declared and asserted so far; models: :produce-models is true; asked: check-sat stands behind all that is asserted
+-- satMode: nothing but get-value stands behind check-sat, whatever its answer, which is no part of the text
+-- a declaration leads back to assert mode (figure 4.1), though z3 and cvc5 give values there too
+unfoldable pub gather : Bool → List Declaration → List Sexp → Bool → Bool → Sexp → Option Script
+gather models ds es asked satMode (atom a) = none
+gather models ds es asked satMode nil = none
+gather models ds es asked satMode (cons c s) = elim (commandOf c) [
+  | produceModels b ↦ none
+  | declareFun d ↦ elim (declarable ds (d .name)) [ true ↦ gather models (ds ++ (d ∷ [])) es asked false s | false ↦ none ]
+  | assertion e ↦ elim (formula ds e) [ true ↦ gather models ds (es ++ (e ∷ [])) false false s | false ↦ none ]
+  | checkSat ↦ gather models ds es true true s
+  | getValue ts ↦ elim (models && (satMode && wellSorted ds ts)) [ true ↦ gather models ds es asked satMode s | false ↦ none ]
   | exit ↦ elim asked [ true ↦ exactly0 none (some (record { declares = ds; asserts = es })) (items s) | false ↦ none ]
   | unknown ↦ none
 ]
@@ -63,8 +80,23 @@ gather ds es asked (cons c s) = elim (commandOf c) [
 unfoldable pub setsLogic : Sexp → Bool
 setsLogic c = exactly2 false (λ w l. named "set-logic" (reservedIn w) && (named "QF_BV" (symbolIn l) || named "QF_UFBV" (symbolIn l))) (items c)
 
--- the first command is set-logic, and no other is
+-- start mode, in which alone :produce-models can be set (section 4.1.7): options, of which the last one counts, up to set-logic
+unfoldable pub start : Bool → Sexp → Option Script
+start models (atom a) = none
+start models nil = none
+start models (cons c s) = elim (setsLogic c) [
+  | true ↦ gather models [] [] false false s
+  | false ↦ elim (commandOf c) [
+    | produceModels b ↦ start b s
+    | declareFun d ↦ none
+    | assertion e ↦ none
+    | checkSat ↦ none
+    | getValue ts ↦ none
+    | exit ↦ none
+    | unknown ↦ none
+  ]
+]
+
+-- :produce-models is false where it isn't set
 unfoldable pub scriptIn : Sexp → Option Script
-scriptIn (atom a) = none
-scriptIn nil = none
-scriptIn (cons c s) = elim (setsLogic c) [ true ↦ gather [] [] false s | false ↦ none ]
+scriptIn s = start false s

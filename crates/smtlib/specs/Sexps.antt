@@ -32,25 +32,28 @@ sexpsOf bytes = parse [] nil (tokens (outside []) bytes)
 
 -- ---- what an s-expression is
 
--- what s, r or n makes of a symbol, a reserved word or a numeral; d of anything else
-abbrev pub byKind : {A : Type 0} → A → (List ℕ → A) → (List ℕ → A) → (List ℕ → A) → Sexp → A
-byKind d s r n (atom (symbol w)) = s w
-byKind d s r n (atom (reserved w)) = r w
-byKind d s r n (atom (numeral ds)) = n ds
-byKind d s r n (atom (hexadecimal ds)) = d
-byKind d s r n (atom (binary ds)) = d
-byKind d s r n (atom (keyword w)) = d
-byKind d s r n nil = d
-byKind d s r n (cons x e) = d
+-- what s, r, n or k makes of a symbol, a reserved word, a numeral or a keyword; d of anything else
+abbrev pub byKind : {A : Type 0} → A → (List ℕ → A) → (List ℕ → A) → (List ℕ → A) → (List ℕ → A) → Sexp → A
+byKind d s r n k (atom (symbol w)) = s w
+byKind d s r n k (atom (reserved w)) = r w
+byKind d s r n k (atom (numeral ds)) = n ds
+byKind d s r n k (atom (hexadecimal ds)) = d
+byKind d s r n k (atom (binary ds)) = d
+byKind d s r n k (atom (keyword w)) = k w
+byKind d s r n k nil = d
+byKind d s r n k (cons x e) = d
 
 abbrev pub symbolIn : Sexp → Option (List ℕ)
-symbolIn e = byKind none some (λ w. none) (λ ds. none) e
+symbolIn e = byKind none some (λ w. none) (λ ds. none) (λ w. none) e
 
 abbrev pub reservedIn : Sexp → Option (List ℕ)
-reservedIn e = byKind none (λ w. none) some (λ ds. none) e
+reservedIn e = byKind none (λ w. none) some (λ ds. none) (λ w. none) e
 
 abbrev pub numeralIn : Sexp → Option (List ℕ)
-numeralIn e = byKind none (λ w. none) (λ w. none) some e
+numeralIn e = byKind none (λ w. none) (λ w. none) some (λ w. none) e
+
+abbrev pub keywordIn : Sexp → Option (List ℕ)
+keywordIn e = byKind none (λ w. none) (λ w. none) (λ ds. none) some e
 
 -- what a list has; an atom is taken for a list of itself, so that it is never the empty one
 abbrev pub items : Sexp → List Sexp

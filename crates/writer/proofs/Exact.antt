@@ -1,6 +1,7 @@
 -- The writer refuses a sheet exactly as its table of rows says, and a refusal's number and place are small. Assumes nothing.
 use Prim.Native.Nat.{ℕ, _≤_}
 use mathlib.Core.Path.{_≡_}
+use mathlib.Core.Bool.{Bool}
 use mathlib.Core.List.{List}
 use mathlib.Core.Option.{some}
 use native.Mathlib.Omega.{arith}
@@ -12,6 +13,7 @@ use Rattle.refusals.proofs.RowLaws.{exactly-most, exactly-then}
 use Rattle.refusals.proofs.BoundLaws.{Bounded, bounded-row, bounded-then, bounded-as, bounded-answer}
 use Rattle.reading.proofs.Exact.{sheet-exactly}
 use Rattle.reading.proofs.Bounds.{sheet-small}
+use Rattle.wording.specs.Form.{Form, sixteen}
 use Rattle.wording.specs.Script.{script}
 use Rattle.writer.specs.Writes.{scriptRefusal, enoughRoom}
 use Rattle.writer.specs.Rows.{Row9, scriptRows}
@@ -22,15 +24,17 @@ pub record Low (number place : ℕ) : Type 0 where
   pub some-number : 1 ≤ number
   pub low-place : place ≤ enoughRoom
 
-module _ (s : List ℕ) (room : ℕ) where
-  pub script-exactly : Exactly (scriptRows s room) (scriptRefusal s room)
-  unfolding scriptRefusal
-  script-exactly = exactly-then (sheet-exactly s) (λ e. exactly-most (length (script (ruleIn s))) room 9 (length (script (ruleIn s))))
+-- in any form
+pub script-exactly : (f : Form) (s : List ℕ) (room : ℕ) → Exactly (scriptRows f s room) (scriptRefusal f s room)
+unfolding scriptRefusal
+script-exactly f s room = exactly-then (sheet-exactly s) (λ e. exactly-most (length (script f (ruleIn s))) room 9 (length (script f (ruleIn s))))
 
-  rows-small : Bounded Low (scriptRows s room)
+-- at 16 bits, with models or without
+module _ (models : Bool) (s : List ℕ) (room : ℕ) where
+  rows-small : Bounded Low (scriptRows (sixteen models) s room)
   rows-small =
       bounded-then (bounded-as (λ n p h. record { some-number = h .some-number; low-place = omega arith }) (sheet-small s))
-      (λ a. bounded-row 9 (length (script (ruleIn s))) (Row9 s room) (λ h. record { some-number = omega arith; low-place = script-short s (sheet-exactly s .passed .1 a) }))
+      (λ a. bounded-row 9 (length (script (sixteen models) (ruleIn s))) (Row9 (sixteen models) s room) (λ h. record { some-number = omega arith; low-place = script-short models s (sheet-exactly s .passed .1 a) }))
 
-  pub script-small : {r : Refusal} → scriptRefusal s room ≡ some r → Low (r .number) (r .place)
-  script-small e = bounded-answer rows-small script-exactly e
+  pub script-small : {r : Refusal} → scriptRefusal (sixteen models) s room ≡ some r → Low (r .number) (r .place)
+  script-small e = bounded-answer rows-small (script-exactly (sixteen models) s room) e

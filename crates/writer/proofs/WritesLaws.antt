@@ -15,6 +15,7 @@ use Rattle.refusals.specs.declared.Reading.the-variants.{Accepted, Refused as r
 use Rattle.refusals.specs.Said.{saidOf}
 use Rattle.refusals.proofs.AfterLaws.{passes, stops}
 use Rattle.reading.specs.Cascade.{refusalOf}
+use Rattle.wording.specs.Form.{Form}
 use Rattle.wording.specs.Script.{script}
 use Rattle.room.specs.Room.{over, Wrote}
 use Rattle.room.proofs.RoomLaws.{wrote-over}
@@ -22,30 +23,30 @@ use Rattle.writer.specs.declared.Written.{Written}
 use Rattle.writer.specs.declared.Written.the-variants.{Script, Refused}
 use Rattle.writer.specs.Writes.{scriptRefusal, writtenSaid, scriptVerdict, scriptRoom, Writes}
 
-module _ (s : List ℕ) where
-  -- what the refusal makes of the answer and of the room
-  refused-with : (before : List ℕ) {r : Refusal} → scriptRefusal s (length before) ≡ some r → Writes s before (Refused r) before
-  refused-with before d = record { answer = ap (λ (o : Option Refusal). scriptVerdict o (script (ruleIn s))) (sym d); room = ap (λ (o : Option Refusal). scriptRoom o (script (ruleIn s)) before) (sym d) }
+pub sheet-accepted : (s : List ℕ) {a : Reading} → saidOf a ≡ refusalOf s → a ≡ Accepted → refusalOf s ≡ none
+sheet-accepted s e d = sym e ∙ ap saidOf d
 
-  pub sheet-refused : (before : List ℕ) {a : Reading} {r : Refusal} → saidOf a ≡ refusalOf s → a ≡ refused r → Writes s before (Refused r) before
+module _ (f : Form) (s : List ℕ) where
+  -- what the refusal makes of the answer and of the room
+  refused-with : (before : List ℕ) {r : Refusal} → scriptRefusal f s (length before) ≡ some r → Writes f s before (Refused r) before
+  refused-with before d = record { answer = ap (λ (o : Option Refusal). scriptVerdict o (script f (ruleIn s))) (sym d); room = ap (λ (o : Option Refusal). scriptRoom o (script f (ruleIn s)) before) (sym d) }
+
+  pub sheet-refused : (before : List ℕ) {a : Reading} {r : Refusal} → saidOf a ≡ refusalOf s → a ≡ refused r → Writes f s before (Refused r) before
   unfolding scriptRefusal
   sheet-refused before e d = refused-with before (otherwise-some _ (sym e ∙ ap saidOf d))
 
-  pub sheet-accepted : {a : Reading} → saidOf a ≡ refusalOf s → a ≡ Accepted → refusalOf s ≡ none
-  sheet-accepted e d = sym e ∙ ap saidOf d
-
   module _ (ok : refusalOf s ≡ none) where
-    pub room-short : (before : List ℕ) {n : ℕ} → n ≡ length (script (ruleIn s)) → length before < n → Writes s before (Refused (record { number = 9; place = n })) before
+    pub room-short : (before : List ℕ) {n : ℕ} → n ≡ length (script f (ruleIn s)) → length before < n → Writes f s before (Refused (record { number = 9; place = n })) before
     unfolding scriptRefusal
-    room-short before e l = refused-with before (stops (length (script (ruleIn s))) (length before) 9 _ ok (omega arith) ∙ ap (λ (n : ℕ). some (record { number = 9; place = n })) (sym e))
+    room-short before e l = refused-with before (stops (length (script f (ruleIn s))) (length before) 9 _ ok (omega arith) ∙ ap (λ (n : ℕ). some (record { number = 9; place = n })) (sym e))
 
-    pub script-written : {before after : List ℕ} {n : ℕ} → length (script (ruleIn s)) ≤ length before → Wrote (script (ruleIn s)) before after 0 n → Writes s before (Script n) after
+    pub script-written : {before after : List ℕ} {n : ℕ} → length (script f (ruleIn s)) ≤ length before → Wrote (script f (ruleIn s)) before after 0 n → Writes f s before (Script n) after
     unfolding scriptRefusal
     script-written {before} {after} l w =
-        let d : scriptRefusal s (length before) ≡ none = passes (length (script (ruleIn s))) (length before) 9 _ ok l in
+        let d : scriptRefusal f s (length before) ≡ none = passes (length (script f (ruleIn s))) (length before) 9 _ ok l in
         record {
-          answer = ap (λ (k : ℕ). (none, k)) (w .place ∙ zero-add _) ∙ ap (λ (o : Option Refusal). scriptVerdict o (script (ruleIn s))) (sym d);
-          room = wrote-over w ∙ ap (λ (o : Option Refusal). scriptRoom o (script (ruleIn s)) before) (sym d);
+          answer = ap (λ (k : ℕ). (none, k)) (w .place ∙ zero-add _) ∙ ap (λ (o : Option Refusal). scriptVerdict o (script f (ruleIn s))) (sym d);
+          room = wrote-over w ∙ ap (λ (o : Option Refusal). scriptRoom o (script f (ruleIn s)) before) (sym d);
         }
 
 -- ---- a script that is written
@@ -53,12 +54,12 @@ over-length : (t room : List ℕ) → length t ≤ length (over t room)
 unfolding over
 over-length t room = omega (arith, length-append t (drop (length t) room))
 
-module _ (s : List ℕ) {before after : List ℕ} {a : Written} (c : Writes s before a after) {n : ℕ} (d : a ≡ Script n) where
+module _ {f : Form} (s : List ℕ) {before after : List ℕ} {a : Written} (c : Writes f s before a after) {n : ℕ} (d : a ≡ Script n) where
   pub script-fits : n ≤ length after
-  script-fits = go (scriptRefusal s (length before)) (sym (c .answer) ∙ ap writtenSaid d) (c .room)
+  script-fits = go (scriptRefusal f s (length before)) (sym (c .answer) ∙ ap writtenSaid d) (c .room)
     where
-      go : (o : Option Refusal) → scriptVerdict o (script (ruleIn s)) ≡ (none, n) → after ≡ scriptRoom o (script (ruleIn s)) before → n ≤ length after
-      go none w e = omega (arith, over-length (script (ruleIn s)) before, ap length e, ap (λ (p : Option Refusal × ℕ). p .1) w)
+      go : (o : Option Refusal) → scriptVerdict o (script f (ruleIn s)) ≡ (none, n) → after ≡ scriptRoom o (script f (ruleIn s)) before → n ≤ length after
+      go none w e = omega (arith, over-length (script f (ruleIn s)) before, ap length e, ap (λ (p : Option Refusal × ℕ). p .1) w)
       go (some t) w e = absurd (let z : _≡_ {A = ℕ} 0 1 = cc (ap (λ (p : Option Refusal × ℕ). p .0) w) in omega arith)
 
   -- the room's front of n bytes has n bytes

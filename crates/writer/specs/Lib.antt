@@ -1,3 +1,3 @@
-pub mod Ending
+pub mod Frame
 pub mod Writes
 pub mod Rows

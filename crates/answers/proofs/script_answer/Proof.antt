@@ -8,14 +8,14 @@ returns : tie.Need-returns
 returns c =
     let at-write-script = c .before .before .before .before .before in
     let start = at-write-script .before .before .before .before in
-    script-written _ (start .pre) (at-write-script .write-script .ensures) (c .before .size .given .1)
+    script-written _ _ (start .pre) (at-write-script .write-script .ensures) (c .before .size .given .1)
 
 returns-2 : tie.Need-returns-2
 returns-2 c =
     let at-refusal = c .before .before .before .before .before in
     let at-write-script = at-refusal .before .before .before .before in
     let start = at-write-script .before .before .before .before in
-    wrote-from (script-refused _ (start .pre) (at-write-script .write-script .ensures) (at-refusal .refusal .given .1)) (c .before .before .refused-line .ensures)
+    wrote-from (script-refused _ _ (start .pre) (at-write-script .write-script .ensures) (at-refusal .refusal .given .1)) (c .before .before .refused-line .ensures)
 
 pub script-answer-spec : {M : Type 1} → statement M
 script-answer-spec =

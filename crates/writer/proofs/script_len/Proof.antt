@@ -4,12 +4,12 @@ use mathlib.Core.Path.{_≡_, ap}
 use native.Mathlib.Omega.{arith}
 use borrow.Author.Needs.{needs}
 use lib.ListN.{length}
-use Rattle.layout.specs.Parts.{variableCount, ruleIn}
+use Rattle.layout.specs.Parts.{ruleIn}
 use Rattle.reading.proofs.RuleLaws.{accepted-counted}
+use Rattle.wording.specs.Form.{formOf}
 use Rattle.wording.specs.Script.{script}
-use Rattle.lines.specs.Lines.{LinesSize}
 use Rattle.terms.specs.Texts.{textAt}
-use Rattle.writer.specs.Ending.{frameBytes}
+use Rattle.writer.specs.Frame.{frameBytes, modelsBytes}
 use Rattle.writer.proofs.ScriptLaws.{first-block, goal-ready, script-length, script-short}
 use Rattle.writer.proofs.script_len.Statement.{statement}
 use Rattle.writer.proofs.script_len.Tie as tie
@@ -23,21 +23,27 @@ term-len-requires c κs = goal-ready _ (c .before .before .before .pre) (c .goal
 variables-len-requires : tie.Need-variables-len-requires
 variables-len-requires c κs = omega (arith, accepted-counted _ (c .before .before .before .before .pre) .few)
 
-whole : (c : tie.After-variables-len) → c .variables-len .result + c .before .term-len .result + frameBytes ≡ length (script (ruleIn (c .before .before .before .before .before .args .sheet .now)))
+whole : (c : tie.After-variables-len)
+    → length (script (formOf (c .before .before .before .before .before .args .form)) (ruleIn (c .before .before .before .before .before .args .sheet .now)))
+    ≡ c .variables-len .result + c .before .term-len .result + frameBytes + modelsBytes (c .before .before .before .before .before .args .form .models) (c .before .before .before .variable-count .result)
 whole c =
-    let v = c .before .before .before in
-    let a = v .before .before in
-    let l : LinesSize (variableCount (a .args .sheet .now)) (c .variables-len .result) = rw (← v .variable-count .ensures) (c .variables-len .ensures) in
-    omega (arith, script-length _ (a .pre) l, ap (λ n. length (textAt (a .args .sheet .now) n)) (c .before .before .goal-node .ensures))
+    let a = c .before .before .before .before .before in
+    omega (arith, script-length (a .args .form .models) _ (a .pre) (c .before .before .before .variable-count .ensures) (c .variables-len .ensures), ap (λ n. length (textAt (a .args .sheet .now) n)) (c .before .before .goal-node .ensures))
 
 add-result : tie.Need-add-result
-add-result c = omega (arith, whole c, script-short _ (c .before .before .before .before .before .pre))
+add-result c = let a = c .before .before .before .before .before in omega (arith, whole c, script-short (a .args .form .models) _ (a .pre))
 
 add-result-2 : tie.Need-add-result-2
-add-result-2 c = omega (arith, whole c, script-short _ (c .before .before .before .before .before .pre))
+add-result-2 c = let a = c .before .before .before .before .before in omega (arith, whole c, script-short (a .args .form .models) _ (a .pre))
+
+models-len-requires : tie.Need-models-len-requires
+models-len-requires c κs = omega (arith, accepted-counted _ (c .before .before .before .before .before .pre) .few)
+
+add-result-3 : tie.Need-add-result-3
+add-result-3 c = let a = c .before .before .before .before .before .before in omega (arith, whole (c .before), script-short (a .args .form .models) _ (a .pre))
 
 returns : tie.Need-returns
-returns c = whole c
+returns c = omega (arith, whole (c .before))
 
 pub script-len-spec : {M : Type 1} → statement M
 script-len-spec =
@@ -49,4 +55,6 @@ script-len-spec =
     variables-len-requires
     add-result
     add-result-2
+    models-len-requires
+    add-result-3
     returns)

@@ -6,10 +6,10 @@ use Rattle.writer.proofs.write_accepted.Statement.{statement}
 use Rattle.writer.proofs.write_accepted.Tie as tie
 
 returns : tie.Need-returns
-returns c = room-short _ (c .before .before .before .before .pre) _ (c .before .script-len .ensures) (c .if1 .taken)
+returns c = room-short _ _ (c .before .before .before .before .pre) _ (c .before .script-len .ensures) (c .if1 .taken)
 
 returns-2 : tie.Need-returns-2
-returns-2 c = script-written _ (c .before .before .before .before .before .before .before .before .pre) (omega arith) (c .before .before .put-script .ensures)
+returns-2 c = script-written _ _ (c .before .before .before .before .before .before .before .before .pre) (omega arith) (c .before .before .put-script .ensures)
 
 pub write-accepted-spec : {M : Type 1} → statement M
 write-accepted-spec =

@@ -8,7 +8,7 @@ write-accepted-requires : tie.Need-write-accepted-requires
 write-accepted-requires c κs = sheet-accepted _ (c .before .before .before .read .ensures) (c .before .enum-told .given .1)
 
 returns : tie.Need-returns
-returns c = sheet-refused _ _ (c .before .before .before .read .ensures) (c .before .refusal .given .1)
+returns c = sheet-refused _ _ _ (c .before .before .before .read .ensures) (c .before .refusal .given .1)
 
 pub write-script-spec : {M : Type 1} → statement M
 write-script-spec =
