@@ -17,7 +17,7 @@ use Rattle.layout.specs.Fold.{ofTree}
 use Rattle.wording.specs.Sixteen.{hexText, literal, symbolText}
 use Rattle.pieces.specs.Sizes.{longestSymbol}
 use Rattle.pieces.proofs.PieceLaws.{hex-length, literal-length, symbol-short}
-use Rattle.lines.specs.Lines.{declarationLine, rangeStart, rangeEnd, rangeLine, furtherSymbol, valuesLine, declare, sorted, lowest, highest, blank, closed, getValue, valuesEnd, declarationBytes, startBytes, rangeBytes, linesBytes, furtherBytes, valuesBytes, LinesSize}
+use Rattle.lines.specs.Lines.{declarationLine, rangeStart, rangeEnd, rangeLine, furtherSymbol, valuesLine, declare, sorted, lowest, highest, blank, closed, getValue, valuesEnd, declarationBytes, startBytes, rangeBytes, linesBytes, spacedBytes, valuesBytes, LinesSize}
 
 -- ---- lengths
 pub declaration-length : (i : ℕ) → length (declarationLine i) ≡ declarationBytes (length (symbolText i))
@@ -48,7 +48,7 @@ pub declaration-is : (i : ℕ) → declare ++ symbolText i ++ sorted ≡ declara
 unfolding declarationLine decimal decimalIn
 declaration-is i = rw (append-assoc (symbolText i) (ascii " () (_ BitVec 16))") (ascii "\n"))
 
-flat-parts : (a l b v c d h e : List ℕ) → a ++ l ++ b ++ v ++ (c ++ v ++ d ++ h ++ e) ≡ a ++ (l ++ (b ++ (v ++ (c ++ (v ++ (d ++ (h ++ e)))))))
+flat-parts : (a l b v c d h e : List ℕ) → a ++ l ++ (b ++ v) ++ (c ++ v ++ d ++ h ++ e) ≡ a ++ (l ++ (b ++ (v ++ (c ++ (v ++ (d ++ (h ++ e)))))))
 flat-parts a l b v c d h e = simp append-assoc
 
 flat-line : (a o w p q b l v h e n : List ℕ)
@@ -78,13 +78,13 @@ values-from (suc n) h = let e : suc n - 1 ≡ n = omega arith in rw e
 pub values-length : (n : ℕ) → 0 < n → length (valuesLine n) ≡ valuesBytes + length (symbolText 0) + length (joinedBelow furtherSymbol (n - 1))
 values-length n h = ap length (sym (values-from n h)) ∙ simp length-append (omega arith)
 
-pub further-length : (i : ℕ) → length (furtherSymbol i) ≡ furtherBytes (length (symbolText (i + 1)))
+pub further-length : (i : ℕ) → length (furtherSymbol i) ≡ spacedBytes (length (symbolText (i + 1)))
 further-length i = length-append blank (symbolText (i + 1))
 
-pub further-short : (n : ℕ) → length (joinedBelow furtherSymbol n) ≤ furtherBytes longestSymbol * n
+pub further-short : (n : ℕ) → length (joinedBelow furtherSymbol n) ≤ spacedBytes longestSymbol * n
 further-short zero = rw (joined-none furtherSymbol) (lit≤ tt)
 further-short (suc n) = omega (arith, further-short n, rw add-one at (length-more furtherSymbol n), rw add-one at (further-length n), symbol-short (suc n))
 
-pub values-short : (n : ℕ) → length (valuesLine n) ≤ valuesBytes + furtherBytes longestSymbol * n
+pub values-short : (n : ℕ) → length (valuesLine n) ≤ valuesBytes + spacedBytes longestSymbol * n
 values-short zero = omega (arith, ap length (values-none {n = 0} refl))
 values-short (suc n) = omega (arith, values-length (suc n) (omega arith), further-short (suc n - 1), symbol-short 0)

@@ -44,16 +44,20 @@ getValue = ascii "(get-value ("
 abbrev pub valuesEnd : List ℕ
 valuesEnd = ascii "))\n"
 
+-- a symbol, and a blank before it
+abbrev pub spaced : ℕ → List ℕ
+spaced i = blank ++ symbolText i
+
 -- a range line in two parts, by the bits of the ends
 unfoldable pub rangeStart : ℕ → ℕ → List ℕ
-rangeStart low i = lowest ++ hexText low ++ blank ++ symbolText i
+rangeStart low i = lowest ++ hexText low ++ spaced i
 
 unfoldable pub rangeEnd : ℕ → ℕ → List ℕ
 rangeEnd i high = highest ++ symbolText i ++ blank ++ hexText high ++ closed
 
--- the symbol of the variable behind variable i, and a blank before it
+-- the symbol of the variable behind variable i, as above
 abbrev pub furtherSymbol : ℕ → List ℕ
-furtherSymbol i = blank ++ symbolText (i + 1)
+furtherSymbol i = spaced (i + 1)
 
 -- the line that asks for the values of the first n variables
 unfoldable pub valuesLine : ℕ → List ℕ
@@ -64,8 +68,11 @@ valuesLine (suc n) = getValue ++ symbolText 0 ++ joinedBelow furtherSymbol n ++ 
 abbrev pub declarationBytes : ℕ → ℕ
 declarationBytes k = length declare + k + length sorted
 
+abbrev pub spacedBytes : ℕ → ℕ
+spacedBytes k = length blank + k
+
 abbrev pub startBytes : ℕ → ℕ
-startBytes k = length lowest + constantBytes + length blank + k
+startBytes k = length lowest + constantBytes + spacedBytes k
 
 abbrev pub endBytes : ℕ → ℕ
 endBytes k = length highest + k + length blank + constantBytes + length closed
@@ -75,9 +82,6 @@ rangeBytes k = startBytes k + endBytes k
 
 abbrev pub linesBytes : ℕ → ℕ
 linesBytes k = declarationBytes k + rangeBytes k
-
-abbrev pub furtherBytes : ℕ → ℕ
-furtherBytes k = length blank + k
 
 -- the line that asks for values, but for the symbols and the blanks between them
 abbrev pub valuesBytes : ℕ

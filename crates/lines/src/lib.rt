@@ -1,6 +1,5 @@
 // The lines of a script that are about variables, written into lent room: declarations, ranges and values asked for.
 ghost use mathlib.Core.Path.{_≡_};
-ghost use mathlib.Core.List.{_++_};
 ghost use Prim.Native.Nat.{_+_, _≤_, _<_};
 ghost use lib.ListN.{length};
 ghost use Rattle.lists.specs.Joined.{joinedBelow};
@@ -8,7 +7,7 @@ ghost use Rattle.layout.specs.Limits.{blockBytes, mostVariables};
 ghost use Rattle.wording.specs.Sixteen.{symbolText};
 ghost use Rattle.room.specs.Room.{Wrote};
 ghost use Rattle.pieces.specs.Sizes.{longestSymbol};
-ghost use Rattle.lines.specs.Lines.{declarationLine, rangeStart, rangeEnd, rangeLine, blank, furtherSymbol, valuesLine, declarationBytes, startBytes, endBytes, rangeBytes, linesBytes, furtherBytes, LinesSize};
+ghost use Rattle.lines.specs.Lines.{declarationLine, rangeStart, rangeEnd, rangeLine, spaced, furtherSymbol, valuesLine, declarationBytes, startBytes, endBytes, rangeBytes, linesBytes, spacedBytes, LinesSize};
 use numbers::VariableNumber;
 use pieces::BLANK;
 use pieces::CONSTANT_BYTES;
@@ -64,6 +63,15 @@ pub fn declarations(room: &mut [u8], at: usize, count: usize) -> usize
     next
 }
 
+// A blank, and a variable's symbol.
+fn spaced_symbol(room: &mut [u8], at: usize, n: VariableNumber) -> usize
+    requires { ⌜ (n .0 < mostVariables) × (at + spacedBytes (length (symbolText (n .0))) ≤ length (now room)) ⌝ }
+    ensures { λ r. ⌜ Wrote (spaced (n .0)) (now (room .entry)) (now (room .exit)) at r ⌝ }
+{
+    let next = room::put(room, at, &BLANK);
+    pieces::symbol(room, next, n)
+}
+
 // A range line up to its first symbol, with the lower end by its bits.
 fn range_start(room: &mut [u8], at: usize, n: VariableNumber, low: u16) -> usize
     requires { ⌜ (n .0 < mostVariables) × (at + startBytes (length (symbolText (n .0))) ≤ length (now room)) ⌝ }
@@ -71,8 +79,7 @@ fn range_start(room: &mut [u8], at: usize, n: VariableNumber, low: u16) -> usize
 {
     let p = room::put(room, at, &LOWEST);
     let q = pieces::constant_from(room, p, low);
-    let r = room::put(room, q, &BLANK);
-    pieces::symbol(room, r, n)
+    spaced_symbol(room, q, n)
 }
 
 // The rest of a range line, with the upper end by its bits.
@@ -113,15 +120,6 @@ pub fn range_lines(sheet: &[u8], room: &mut [u8], at: usize, count: usize) -> us
     next
 }
 
-// A blank, and a variable's symbol.
-fn further_symbol(room: &mut [u8], at: usize, n: VariableNumber) -> usize
-    requires { ⌜ (n .0 < mostVariables) × (at + furtherBytes (length (symbolText (n .0))) ≤ length (now room)) ⌝ }
-    ensures { λ r. ⌜ Wrote (blank ++ symbolText (n .0)) (now (room .entry)) (now (room .exit)) at r ⌝ }
-{
-    let next = room::put(room, at, &BLANK);
-    pieces::symbol(room, next, n)
-}
-
 // The symbols of so many variables behind the first, a blank before each.
 fn further_symbols(room: &mut [u8], at: usize, others: usize) -> usize
     requires { ⌜ (others < mostVariables) × (at + length (joinedBelow furtherSymbol others) ≤ length (now room)) ⌝ }
@@ -131,7 +129,7 @@ fn further_symbols(room: &mut [u8], at: usize, others: usize) -> usize
     let mut i: usize = 0;
     while i < others {
         i += 1;
-        next = further_symbol(room, next, VariableNumber(i as u16));
+        next = spaced_symbol(room, next, VariableNumber(i as u16));
     }
     next
 }

@@ -1,4 +1,4 @@
--- The script of an accepted sheet from its lines, and how long it is. Assumes nothing.
+-- The script of an accepted sheet from its lines, with models or without (m), and how long it is. Assumes nothing.
 use Prim.Native.Nat.{ℕ, zero, suc, _+_, _≤_}
 use mathlib.Core.Path.{_≡_, refl, sym, ap, _∙_}
 use mathlib.Core.Bool.{Bool, true, false}

@@ -21,14 +21,14 @@ abbrev μ-loop : tie.MeasureT-loop
 loop-holds : tie.Need-loop-holds Inv-loop μ-loop
 loop-holds c = (omega arith, omega arith, wrote-no-texts _ _ _)
 
-further-symbol-requires : tie.Need-further-symbol-requires Inv-loop μ-loop
-further-symbol-requires c κs = (omega arith, omega (arith, length-within furtherSymbol {n = c .before .before .loop .i} {m = c .before .before .before .before .args .others} (omega arith), further-length (c .before .before .loop .i)))
+spaced-symbol-requires : tie.Need-spaced-symbol-requires Inv-loop μ-loop
+spaced-symbol-requires c κs = (omega arith, omega (arith, length-within furtherSymbol {n = c .before .before .loop .i} {m = c .before .before .before .before .args .others} (omega arith), further-length (c .before .before .loop .i)))
 
 loop-again : tie.Need-loop-again Inv-loop μ-loop
 loop-again c =
     let at-loop = c .before .before .before .before .before in
     let start = at-loop .before .before in
-    (omega arith, omega arith, wrote-more furtherSymbol {m = start .args .others} (omega arith) (omega arith) (at-loop .loop .inv .2) (c .before .before .further-symbol .ensures))
+    (omega arith, omega arith, wrote-more furtherSymbol {m = start .args .others} (omega arith) (omega arith) (at-loop .loop .inv .2) (c .before .before .spaced-symbol .ensures))
 
 returns : tie.Need-returns Inv-loop μ-loop
 returns c = let e : c .before .loop .i ≡ c .before .before .before .args .others = omega arith in wrote-as (c .before .loop .inv .2) (ap (joinedBelow furtherSymbol) e)
@@ -42,7 +42,7 @@ further-symbols-spec =
     loop-holds
     (λ c. omega arith)
     (λ c. omega arith)
-    further-symbol-requires
+    spaced-symbol-requires
     (λ c. omega arith)
     loop-again
     (λ c. omega arith)

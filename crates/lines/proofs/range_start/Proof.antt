@@ -1,27 +1,22 @@
--- `lines::range_start` meets its contract: the text from its four pieces. Assumes nothing.
+-- `lines::range_start` meets its contract: the text from its three pieces. Assumes nothing.
 use native.Mathlib.Omega.{arith}
 use borrow.Author.Needs.{needs}
 use Rattle.wording.specs.Sixteen.{hexText}
 use Rattle.lines.specs.Lines.{rangeStart}
-use Rattle.room.proofs.RoomLaws.{chain4}
+use Rattle.room.proofs.RoomLaws.{chain3}
 use Rattle.lines.proofs.range_start.Statement.{statement}
 use Rattle.lines.proofs.range_start.Tie as tie
 
-put-requires-2 : tie.Need-put-requires-2
+spaced-symbol-requires : tie.Need-spaced-symbol-requires
 unfolding hexText
-put-requires-2 c κs = search needs
-
-symbol-requires : tie.Need-symbol-requires
-unfolding hexText
-symbol-requires c κs = search needs
+spaced-symbol-requires c κs = search needs
 
 returns : tie.Need-returns
 unfolding rangeStart hexText
 returns c =
-    let at-put2 = c .before .before .before .before .before .before in
-    let at-constant-from = at-put2 .before .before .before .before .before in
+    let at-constant-from = c .before .before .before .before .before .before in
     let at-put = at-constant-from .before .before .before .before in
-    chain4 (omega arith) (at-put .put .ensures) (at-constant-from .constant-from .ensures) (at-put2 .put2 .ensures) (c .before .before .symbol .ensures)
+    chain3 (omega arith) (at-put .put .ensures) (at-constant-from .constant-from .ensures) (c .before .before .spaced-symbol .ensures)
 
 pub range-start-spec : {M : Type 1} → statement M
 range-start-spec =
@@ -30,8 +25,6 @@ range-start-spec =
     (λ c. search needs)
     (λ c κs. search needs)
     (λ c κs. search needs)
-    (λ c. search needs)
-    put-requires-2
-    symbol-requires
+    spaced-symbol-requires
     (λ c. search needs)
     returns)

@@ -1,13 +1,13 @@
--- `lines::further_symbol` meets its contract: the symbol behind the blank. Assumes nothing.
+-- `lines::spaced_symbol` meets its contract: the symbol behind the blank. Assumes nothing.
 use native.Mathlib.Omega.{arith}
 use borrow.Author.Needs.{needs}
 use Rattle.room.proofs.RoomLaws.{chain}
-use Rattle.lines.proofs.further_symbol.Statement.{statement}
-use Rattle.lines.proofs.further_symbol.Tie as tie
+use Rattle.lines.proofs.spaced_symbol.Statement.{statement}
+use Rattle.lines.proofs.spaced_symbol.Tie as tie
 
 returns : tie.Need-returns
 returns c = chain (omega arith) (c .before .before .before .before .before .before .put .ensures) (c .before .before .symbol .ensures)
 
-pub further-symbol-spec : {M : Type 1} → statement M
-further-symbol-spec =
+pub spaced-symbol-spec : {M : Type 1} → statement M
+spaced-symbol-spec =
     tie.close (tie.spec (λ c. search needs) (λ c κs. search needs) (λ c κs. search needs) (λ c. search needs) returns)

@@ -1,0 +1,3 @@
+pub mod HashScan
+pub mod DigitLaws
+pub mod NumberLaws

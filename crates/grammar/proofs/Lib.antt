@@ -1,0 +1,4 @@
+pub mod BeginLaws
+pub mod MachineLaws
+pub mod Definite
+pub mod PatternLaws

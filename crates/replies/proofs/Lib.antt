@@ -1,0 +1,12 @@
+pub mod ByteLaws
+pub mod DefiniteLaws
+pub mod PassLaws
+pub mod ReachLaws
+pub mod SaysLaws
+pub mod HashLaws
+pub mod OnceLaws
+pub mod SatLaws
+pub mod NumberLaws
+pub mod Unique
+pub mod Spelled
+pub mod Vectors

@@ -1,0 +1,206 @@
+-- A reply is what claims unsat or spells a case, and nothing else. Assumes nothing.
+use Prim.Native.Nat.{ℕ, zero, suc}
+use mathlib.Core.Path.{_≡_, refl, ap, subst, _∙_}
+use mathlib.Core.Logic.{_↔_, inl, inr}
+use mathlib.Core.Bool.{Bool, true}
+use mathlib.Core.List.{List, [], _∷_, map}
+use lib.Dec.{eqb, ltb}
+use native.Mathlib.Omega.{arith}
+use lib.ListN.{length, replicate}
+use borrow.Author.Tests.{eq-eqb, eqb-true}
+use Rattle.lists.specs.Ascii.{ascii}
+use Rattle.smtlib.specs.Characters.{whiteSpace}
+use Rattle.smtlib.specs.Tokens.{digitValue}
+use Rattle.wording.specs.Sixteen.{symbolText}
+use Rattle.grammar.specs.Patterns.{Pattern, end, one, many, either, exact, times, All, Fits}
+use Rattle.replies.specs.Replies.{blanks, mark, digitTo, anyValue, pair, pairs, listed, claim, Reply}
+use Rattle.replies.specs.Says.{Numeral, hexadecimal, binary, numberIn, Sixteen, AllSixteen, valued, digits, written, Says, unsat, sat}
+
+-- ---- one of a family of patterns, under what stands before it
+
+abbrev Some : {A : Type 0} → (A → Pattern) → List ℕ → Type 0
+Some {A} b s = (x : A) × Fits (b x) s
+
+record Into {A : Type 0} (a : Pattern) (b : A → Pattern) : Type 0 where
+  into : (s : List ℕ) → Fits a s → Some b s
+
+module _ {A : Type 0} {a : Pattern} {b : A → Pattern} where
+  into-one : (t : ℕ → Bool) → Into a b → Into (one t a) (λ x. one t (b x))
+  unfolding Fits
+  into-one t h = record { into = λ s f. let w = h .into (f .rest) (f .then) in (w .0, record { byte = f .byte; rest = f .rest; split = f .split; fits = f .fits; then = w .1 }) }
+
+  into-many : (t : ℕ → Bool) → Into a b → Into (many t a) (λ x. many t (b x))
+  unfolding Fits
+  into-many t h = record { into = λ s f. let w = h .into (f .rest) (f .then) in (w .0, record { bytes = f .bytes; rest = f .rest; split = f .split; fits = f .fits; then = w .1 }) }
+
+into-exact : {A : Type 0} {a : Pattern} {b : A → Pattern} (w : List ℕ) → Into a b → Into (exact w a) (λ x. exact w (b x))
+into-exact [] h = h
+into-exact (c ∷ w) h = into-one (eqb c) (into-exact w h)
+
+into-digits : {A : Type 0} {a : Pattern} {b : A → Pattern} (ds : List ℕ) → Into a b → Into (digits ds a) (λ x. digits ds (b x))
+into-digits [] h = h
+into-digits (d ∷ ds) h = into-one (valued d) (into-digits ds h)
+
+into-written : {A : Type 0} {a : Pattern} {b : A → Pattern} (n : Numeral) → Into a b → Into (written n a) (λ x. written n (b x))
+into-written (hexadecimal ds) h = into-exact (ascii "#x") (into-digits ds h)
+into-written (binary ds) h = into-exact (ascii "#b") (into-digits ds h)
+
+-- before a value
+into-pair : {A : Type 0} {a : Pattern} {b : A → Pattern} (i : ℕ) → Into a b →
+    Into (mark 40 (blanks (exact (symbolText i) (one whiteSpace (blanks a))))) (λ x. mark 40 (blanks (exact (symbolText i) (one whiteSpace (blanks (b x))))))
+into-pair i h = into-many whiteSpace (into-one (eqb 40) (into-many whiteSpace (into-exact (symbolText i) (into-one whiteSpace (into-many whiteSpace h)))))
+
+into-mark : {A : Type 0} {a : Pattern} {b : A → Pattern} (d : ℕ) → Into a b → Into (mark d a) (λ x. mark d (b x))
+into-mark d h = into-many whiteSpace (into-one (eqb d) h)
+
+-- by another name for the family
+into-by : {A B : Type 0} {a : Pattern} {b : A → Pattern} {e : B → Pattern} (f : A → B) → Into a b → ((x : A) → b x ≡ e (f x)) → Into a e
+into-by f h q = record { into = λ s g. let w = h .into s g in (f (w .0), subst (λ (p : Pattern). Fits p s) (q (w .0)) (w .1)) }
+
+-- one family behind another
+into-both : {A B : Type 0} {a : Pattern} {b : A → Pattern} {e : A → B → Pattern} → Into a b → ((x : A) → Into (b x) (e x)) → Into a (λ (x : A × B). e (x .0) (x .1))
+into-both h g = record { into = λ s f. let w = h .into s f in let u = g (w .0) .into s (w .1) in ((w .0, u .0), u .1) }
+
+-- ---- digits, values, pairs
+
+abbrev Digits : ℕ → ℕ → Type 0
+Digits base n = (ds : List ℕ) × (length ds ≡ n) × All (λ d. ltb d base) ds
+
+more-digits : (base n : ℕ) (p : Pattern) → Into (times n (digitTo base) p) (λ (x : Digits base n). digits (x .0) p) → Into (times (suc n) (digitTo base) p) (λ (x : Digits base (suc n)). digits (x .0) p)
+unfolding Fits
+more-digits base n p h = record {
+  into = λ s f.
+      let w = h .into (f .rest) (f .then) in
+      let d = digitValue (f .byte) in
+      ((d ∷ w .0 .0, ap suc (w .0 .1), (f .fits, w .0 .2)), record { byte = f .byte; rest = f .rest; split = f .split; fits = eq-eqb d d refl; then = w .1 });
+}
+
+into-times : (base n : ℕ) (p : Pattern) → Into (times n (digitTo base) p) (λ (x : Digits base n). digits (x .0) p)
+into-times base zero p = record { into = λ s f. (([], refl, tt), f) }
+into-times base (suc n) p = more-digits base n p (into-times base n p)
+
+abbrev Right : Type 0
+Right = (n : Numeral) × Sixteen n
+
+into-value : (p : Pattern) → Into (anyValue p) (λ (x : Right). written (x .0) p)
+unfolding Fits
+into-value p = record { into = λ s f. go s f (f .then) }
+  where
+    go : (s : List ℕ) (f : Fits (anyValue p) s) → Fits (either (exact (ascii "x") (times 4 (digitTo 16) p)) (exact (ascii "b") (times 16 (digitTo 2) p))) (f .rest) → Some (λ (x : Right). written (x .0) p) s
+    go s f (inl g) =
+        let w = into-exact (ascii "x") (into-times 16 4 p) .into (f .rest) g in
+        ((hexadecimal (w .0 .0), (w .0 .1, w .0 .2)), record { byte = f .byte; rest = f .rest; split = f .split; fits = f .fits; then = w .1 })
+    go s f (inr g) =
+        let w = into-exact (ascii "b") (into-times 2 16 p) .into (f .rest) g in
+        ((binary (w .0 .0), (w .0 .1, w .0 .2)), record { byte = f .byte; rest = f .rest; split = f .split; fits = f .fits; then = w .1 })
+
+abbrev Rights : ℕ → Type 0
+Rights n = (ns : List Numeral) × (length ns ≡ n) × AllSixteen ns
+
+into-pairs : (n i : ℕ) (p : Pattern) → Into (pairs i (replicate n anyValue) p) (λ (x : Rights n). pairs i (map written (x .0)) p)
+into-pairs zero i p = record { into = λ s f. (([], refl, tt), f) }
+into-pairs (suc n) i p =
+    into-by
+    (λ (x : Right × Rights n). (x .0 .0 ∷ x .1 .0, ap suc (x .1 .1), (x .0 .1, x .1 .2)))
+    (into-both (into-pair i (into-value _)) (λ x. into-pair i (into-written (x .0) (into-mark 41 (into-pairs n (suc i) p)))))
+    (λ x. refl)
+
+into-listed : (v : ℕ) → Into (listed (replicate v anyValue)) (λ (x : Rights v). listed (map written (x .0)))
+into-listed zero = record { into = λ s f. (([], refl, tt), f) }
+into-listed (suc v) = into-by (λ x. x) (into-mark 40 (into-pairs (suc v) 0 (mark 41 (blanks end)))) (λ x. some-listed (x .0) (x .1))
+  where
+    some-listed : (ns : List Numeral) → length ns ≡ suc v → mark 40 (pairs 0 (map written ns) (mark 41 (blanks end))) ≡ listed (map written ns)
+    some-listed [] e = absurd (let z : zero ≡ suc v = e in omega arith)
+    some-listed (n ∷ ns) e = refl
+
+-- ---- and back: what spells a case is a reply
+
+record Within (a b : Pattern) : Type 0 where
+  within : (s : List ℕ) → Fits a s → Fits b s
+
+module _ {a b : Pattern} where
+  within-one : (t u : ℕ → Bool) → ((c : ℕ) → t c ≡ true → u c ≡ true) → Within a b → Within (one t a) (one u b)
+  unfolding Fits
+  within-one t u i h = record { within = λ s f. record { byte = f .byte; rest = f .rest; split = f .split; fits = i (f .byte) (f .fits); then = h .within (f .rest) (f .then) } }
+
+  within-many : (t : ℕ → Bool) → Within a b → Within (many t a) (many t b)
+  unfolding Fits
+  within-many t h = record { within = λ s f. record { bytes = f .bytes; rest = f .rest; split = f .split; fits = f .fits; then = h .within (f .rest) (f .then) } }
+
+within-same : {a : Pattern} → Within a a
+within-same = record { within = λ s f. f }
+
+within-exact : {a b : Pattern} (w : List ℕ) → Within a b → Within (exact w a) (exact w b)
+within-exact [] h = h
+within-exact (c ∷ w) h = within-one (eqb c) (eqb c) (λ d e. e) (within-exact w h)
+
+within-left : {a : Pattern} (b : Pattern) → Within a (either a b)
+unfolding Fits
+within-left b = record { within = λ s f. inl f }
+
+within-right : (a : Pattern) {b : Pattern} → Within b (either a b)
+unfolding Fits
+within-right a = record { within = λ s f. inr f }
+
+within-both : {a b c : Pattern} → Within a b → Within b c → Within a c
+within-both h g = record { within = λ s f. g .within s (h .within s f) }
+
+within-digits : (base : ℕ) {p q : Pattern} → Within p q → (ds : List ℕ) → All (λ d. ltb d base) ds → Within (digits ds p) (times (length ds) (digitTo base) q)
+within-digits base h [] a = h
+within-digits base h (d ∷ ds) a = within-one (valued d) (digitTo base) (λ c e. ap (λ (k : ℕ). ltb k base) (eqb-true (digitValue c) d e) ∙ a .0) (within-digits base h ds (a .1))
+
+within-written : {p q : Pattern} → Within p q → (n : Numeral) → Sixteen n → Within (written n p) (anyValue q)
+within-written {p} {q} h (hexadecimal ds) r =
+    within-exact (ascii "#")
+    (within-both
+    (within-exact (ascii "x") (subst (λ (k : ℕ). Within (digits ds p) (times k (digitTo 16) q)) (r .0) (within-digits 16 h ds (r .1))))
+    (within-left (exact (ascii "b") (times 16 (digitTo 2) q))))
+within-written {p} {q} h (binary ds) r =
+    within-exact (ascii "#")
+    (within-both
+    (within-exact (ascii "b") (subst (λ (k : ℕ). Within (digits ds p) (times k (digitTo 2) q)) (r .0) (within-digits 2 h ds (r .1))))
+    (within-right (exact (ascii "x") (times 4 (digitTo 16) q))))
+
+within-mark : {p q : Pattern} (d : ℕ) → Within p q → Within (mark d p) (mark d q)
+within-mark d h = within-many whiteSpace (within-exact (d ∷ []) h)
+
+within-pairs : (p : Pattern) (ns : List Numeral) (i : ℕ) → AllSixteen ns → Within (pairs i (map written ns) p) (pairs i (replicate (length ns) anyValue) p)
+within-pairs p [] i a = within-same
+within-pairs p (n ∷ ns) i a =
+    within-mark 40
+    (within-many whiteSpace
+    (within-exact (symbolText i)
+    (within-one whiteSpace whiteSpace (λ c e. e)
+    (within-many whiteSpace (within-written (within-mark 41 (within-pairs p ns (suc i) (a .1))) n (a .0))))))
+
+within-listed : (ns : List Numeral) → AllSixteen ns → Within (listed (map written ns)) (listed (replicate (length ns) anyValue))
+within-listed [] a = within-same
+within-listed (n ∷ ns) a = within-mark 40 (within-pairs (mark 41 (blanks end)) (n ∷ ns) 0 a)
+
+-- ---- a reply, and what it says
+
+pub reply-says : (v : ℕ) (s : List ℕ) → Reply v s → Says v s
+unfolding Fits
+reply-says v s f = go (f .then)
+  where
+    go : Fits (either (exact (ascii "unsat") claim) (exact (ascii "sat") (listed (replicate v anyValue)))) (f .rest) → Says v s
+    go (inl g) = unsat (record { bytes = f .bytes; rest = f .rest; split = f .split; fits = f .fits; then = g })
+    go (inr g) =
+        let w = into-exact (ascii "sat") (into-listed v) .into (f .rest) g in
+        sat (map numberIn (w .0 .0)) (record {
+          numerals = w .0 .0;
+          each = w .0 .1;
+          sixteen = w .0 .2;
+          spelled = record { bytes = f .bytes; rest = f .rest; split = f .split; fits = f .fits; then = w .1 };
+          numbers = refl;
+        })
+
+pub says-reply : (v : ℕ) (s : List ℕ) → Says v s → Reply v s
+says-reply v s (unsat f) = within-many whiteSpace (within-left (exact (ascii "sat") (listed (replicate v anyValue)))) .within s f
+says-reply v s (sat t x) =
+    subst (λ (k : ℕ). Reply k s) (x .each)
+    (within-many whiteSpace (within-both (within-exact (ascii "sat") (within-listed (x .numerals) (x .sixteen))) (within-right (exact (ascii "unsat") claim))) .within s (x .spelled))
+
+-- a reply says something, and each way of saying it is a reply
+pub reply-exactly : (v : ℕ) (s : List ℕ) → Reply v s ↔ Says v s
+reply-exactly v s = (reply-says v s, says-reply v s)

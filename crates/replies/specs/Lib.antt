@@ -1,0 +1,4 @@
+pub mod Replies
+pub mod Says
+pub mod Answers
+pub mod Here
