@@ -10,6 +10,12 @@ pub const CHECK: Asked = (4, MOST_VARIABLES as u64);
 pub const TALLY: Asked = (5, 0);
 /// With room that is enough for every script.
 pub const SCRIPT: Asked = (6, ENOUGH_ROOM as u64);
+pub const ASK: Asked = (7, ENOUGH_ROOM as u64);
+pub const REPLY: Asked = (8, 0);
+
+pub fn digits(variable: u64) -> Asked {
+    (9, variable)
+}
 
 pub fn trial(sheet: &[u8], questions: &[Asked]) -> Vec<u8> {
     with_reply(sheet, &[], questions)

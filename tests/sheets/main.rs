@@ -236,7 +236,7 @@ fn scripts_to(mut trials: &[u8], mut got: &[u8], folder: &str) -> io::Result<()>
     while !trials.is_empty() {
         for question in judge::next_trial(&mut trials).questions {
             match (question, judge::next_answer(&mut got, question)) {
-                (Question::Script(_), Some(answer)) if answer.refusal() == 0 => {
+                (Question::Script(_) | Question::Ask(_), Some(answer)) if answer.refusal() == 0 => {
                     fs::write(format!("{}/{}.smt2", folder, number), &answer.room[..answer.low() as usize])?;
                 }
                 _ => {}
