@@ -6,6 +6,7 @@
 //   oracle words WORD FILE..       writes what the program writes when called with these; after 'reply' they are
 //                                  one sheet and one reply
 //   oracle sheets EVERY FOLDER     writes the sheet of every EVERYth trial to a file of its own
+//   oracle pairs EVERY FOLDER      the same, and behind .reply the reply
 //
 // A trial is: sheet length, reply length, number of questions (u32 each), the sheet, the reply, then for each question
 // its subject (one byte: 1 read, 2 name, 3 block, 4 check, 5 tally, 6 script, 7 ask, 8 reply, 9 digits) and a number
@@ -48,7 +49,8 @@ fn main() -> io::Result<()> {
             output.write_all(answers::said_of_reply(&fs::read(sheet)?, &fs::read(reply)?).as_bytes())?
         }
         ["words", word, ..] => answer_words(word, &words[2..], &mut output)?,
-        ["sheets", every, folder] => write_sheets(&mut input, every.parse().unwrap(), folder)?,
+        ["sheets", every, folder] => write_sheets(&mut input, every.parse().unwrap(), folder, false)?,
+        ["pairs", every, folder] => write_sheets(&mut input, every.parse().unwrap(), folder, true)?,
         _ => panic!("{:?} is nothing that the oracle knows", words),
     }
     output.flush()
@@ -65,11 +67,14 @@ fn answer_words(word: &str, files: &[OsString], output: &mut impl Write) -> io::
     Ok(())
 }
 
-fn write_sheets(input: &mut impl Read, every: usize, folder: &str) -> io::Result<()> {
+fn write_sheets(input: &mut impl Read, every: usize, folder: &str, replies: bool) -> io::Result<()> {
     let mut number = 0;
-    while let Some(Trial { sheet, .. }) = next_trial(input)? {
+    while let Some(Trial { sheet, reply, .. }) = next_trial(input)? {
         if number % every == 0 {
             fs::write(format!("{}/{}", folder, number), sheet)?;
+            if replies {
+                fs::write(format!("{}/{}.reply", folder, number), reply)?;
+            }
         }
         number += 1;
     }
