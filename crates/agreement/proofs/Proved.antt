@@ -82,7 +82,7 @@ block-empty sheet part k p =
     (λ f. elim (decLe (blockBytes * k + blockBytes) (length (sheet .now))) [ yes l ↦ inr (λ e. f (l, e)) | no l ↦ inl l ], λ w g. ⊎-elim (λ f. f (g .0)) (λ f. f (g .1)) w)
 
 module _ {s : List ℕ} (h : Sheet s) where
-  accepts : refusalOf s ≡ none
+  pub accepts : refusalOf s ≡ none
   accepts = sheet-exactly s .passed .1 (h .no-row)
 
   pub allowed : Allowed (ruleIn s)

@@ -31,7 +31,7 @@ integers-first {w} {v} {z} {c} h k = record { all = ap suc (k .all); each = by }
 
 -- ---- no two such lists have the same setting
 module _ {w : ℕ} (one : 1 ≤ w) where
-  decs-encs : (c : List ℤ) → ((i : ℕ) → i < length c → Within w (valueIn c i)) → map (dec w) (map (enc w) c) ≡ c
+  pub decs-encs : (c : List ℤ) → ((i : ℕ) → i < length c → Within w (valueIn c i)) → map (dec w) (map (enc w) c) ≡ c
   decs-encs [] h = refl
   decs-encs (z ∷ c) h = ap₂ _∷_ (dec-enc w one z (h 0 (omega arith))) (decs-encs c (λ i l. h (suc i) (omega arith)))
 

@@ -30,7 +30,7 @@ use Rattle.smtlib.proofs.Spelling.{spelled-symbol, spelled-reserved, spelled-ke
 use Rattle.wording.specs.Words.{wordOf}
 use Rattle.wording.specs.Text.{textBy, textStep, text}
 use Rattle.wording.specs.Form.{Form}
-use Rattle.wording.specs.Script.{claims, declaration, declarations, assertion, furtherSymbols, valuesAsked, withModels, linesOf, ended}
+use Rattle.wording.specs.Script.{claims, declaration, declarations, assertion, furtherSymbols, valuesAsked, onlyWith, linesOf, ended}
 use Rattle.forms.specs.Readable.{Readable}
 use Rattle.forms.proofs.Decimals.{decimalDigits, decimal-bytes, decimal-spelled}
 use Rattle.forms.proofs.Sexps.{sexpBy, sexpStep, term, declareSexp, declareChain, assertChain, namesChain, valuesChain, modelsChain, endChain, logicChain, chainOf}
@@ -138,10 +138,10 @@ module _ {f : Form} {m : ℕ} (form : Readable f m) where
   values-printed (v ∷ vs) p = line-printed (ap (λ (l : List ℕ). ascii "(get-value (" ++ l) (symbol-printed 0 (rest (namesChain form 1 vs)) (further-printed 1 vs))) p
 
   -- with models or without
-  models-printed : (more : List (List ℕ)) (before : Sexp → Sexp) {ls : List (List ℕ)} {s : Sexp} → Prints ls s → Prints (more ++ ls) (before s) → Prints (withModels f more ++ ls) (modelsChain form before s)
+  models-printed : (more : List (List ℕ)) (before : Sexp → Sexp) {ls : List (List ℕ)} {s : Sexp} → Prints ls s → Prints (more ++ ls) (before s) → Prints (onlyWith (f .models) more ++ ls) (modelsChain form before s)
   models-printed more before {ls} {s} p q = by (f .models)
     where
-      by : (b : Bool) → Prints (elim b [ true ↦ more | false ↦ [] ] ++ ls) (elim b [ true ↦ before s | false ↦ s ])
+      by : (b : Bool) → Prints (onlyWith b more ++ ls) (elim b [ true ↦ before s | false ↦ s ])
       by true = q
       by false = p
 

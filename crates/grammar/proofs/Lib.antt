@@ -2,3 +2,4 @@ pub mod BeginLaws
 pub mod MachineLaws
 pub mod Definite
 pub mod PatternLaws
+pub mod FitLaws

@@ -7,7 +7,7 @@ use mathlib.Core.Option.{Option, none, some}
 use mathlib.Core.List.{List, [], _∷_, _++_}
 use native.Mathlib.Omega.{arith}
 use Rattle.lists.proofs.FirstLaws.{otherwise-none, otherwise-some}
-use Rattle.grammar.specs.Patterns.{Pattern, end, anything, one, many, either, All, One, Many, Fits}
+use Rattle.grammar.specs.Patterns.{Pattern, end, anything, one, many, either, All, OneByte, ManyBytes, Fits}
 use Rattle.grammar.specs.Stops.{derive, mayEnd}
 use Rattle.grammar.proofs.Definite.{OneWay, Definite}
 use Rattle.grammar.proofs.MachineLaws.{Reads}
@@ -110,15 +110,15 @@ turn-fits end c s e f = absurd (silent refl e)
 turn-fits anything c s e f = tt
 turn-fits (one t p) c s {r} e f = go (t c) refl
   where
-    go : (b : Bool) → t c ≡ b → One t (Fits p) (c ∷ s)
+    go : (b : Bool) → t c ≡ b → OneByte t (Fits p) (c ∷ s)
     go true h = record { byte = c; rest = s; split = refl; fits = h; then = subst (λ (x : Pattern). Fits x s) (same-derived e (derive-one t p c h)) f }
     go false h = absurd (silent (derive-off t p c h) e)
 turn-fits (many t p) c s {r} e f = go (t c) refl (λ q. turn-fits p c s q f)
   where
-    front : Fits (many t p) s → t c ≡ true → Many t (Fits p) (c ∷ s)
+    front : Fits (many t p) s → t c ≡ true → ManyBytes t (Fits p) (c ∷ s)
     front m h = record { bytes = c ∷ m .bytes; rest = m .rest; split = ap (λ (l : List ℕ). c ∷ l) (m .split); fits = (h, m .fits); then = m .then }
 
-    go : (b : Bool) → t c ≡ b → (derive p c ≡ some r → Fits p (c ∷ s)) → Many t (Fits p) (c ∷ s)
+    go : (b : Bool) → t c ≡ b → (derive p c ≡ some r → Fits p (c ∷ s)) → ManyBytes t (Fits p) (c ∷ s)
     go true h more = front (subst (λ (x : Pattern). Fits x s) (same-derived e (derive-many t p c h)) f) h
     go false h more = record { bytes = []; rest = c ∷ s; split = refl; fits = tt; then = more (sym (derive-past t p c h) ∙ e) }
 turn-fits (either p q) c s {r} e f = go (derive p c) refl (λ h. turn-fits p c s h f) (λ h. turn-fits q c s h f)

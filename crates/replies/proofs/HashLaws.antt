@@ -11,6 +11,7 @@ use Rattle.smtlib.specs.Characters.{whiteSpace, digitChar}
 use Rattle.smtlib.specs.Tokens.{digitValue}
 use Rattle.wording.specs.Sixteen.{symbolText}
 use Rattle.grammar.specs.Patterns.{Pattern, end, anything, one, many, exact, All, Fits}
+use Rattle.grammar.proofs.FitLaws.{Covered, cover-one, cover-exact, cover-any}
 use Rattle.replies.specs.Replies.{blanks, mark, pairs, listed}
 use Rattle.replies.specs.Says.{Numeral, hexadecimal, binary, Sixteen, AllSixteen, valued, digits, written, Spells}
 use Rattle.replies.proofs.ByteLaws.{blank-low}
@@ -85,32 +86,21 @@ symbol-free i = (λ e. omega arith, go (ltb i 10))
 
 -- ---- at a hash
 
-record Within (a b : Pattern) : Type 0 where
-  within : (s : List ℕ) → Fits a s → Fits b s
+cover-digits : {p q : Pattern} (ds : List ℕ) → Covered p q → Covered (digits ds p) (digits ds q)
+cover-digits [] h = h
+cover-digits (d ∷ ds) h = cover-one (valued d) (valued d) (λ c e. e) (cover-digits ds h)
 
-within-one : {a b : Pattern} (t : ℕ → Bool) → Within a b → Within (one t a) (one t b)
-unfolding Fits
-within-one t h = record { within = λ s f. record { byte = f .byte; rest = f .rest; split = f .split; fits = f .fits; then = h .within (f .rest) (f .then) } }
-
-within-digits : {p q : Pattern} (ds : List ℕ) → Within p q → Within (digits ds p) (digits ds q)
-within-digits [] h = h
-within-digits (d ∷ ds) h = within-one (valued d) (within-digits ds h)
-
-within-any : {p : Pattern} → Within p anything
-unfolding Fits
-within-any = record { within = λ s f. tt }
-
-has-hash : {ns : List Numeral} {p : Pattern} (n : Numeral) → Within p (behindHash n) → Has ns p → Has (n ∷ ns) (one (eqb 35) p)
+has-hash : {ns : List Numeral} {p : Pattern} (n : Numeral) → Covered p (behindHash n) → Has ns p → Has (n ∷ ns) (one (eqb 35) p)
 unfolding Fits
 has-hash {ns} {p} n w h = record {
-  has = λ s f. subst (Hashes (n ∷ ns)) (sym (f .split ∙ ap (λ (c : ℕ). c ∷ f .rest) (sym (eqb-true 35 (f .byte) (f .fits))))) (hash n (w .within (f .rest) (f .then)) (h .has (f .rest) (f .then)));
+  has = λ s f. subst (Hashes (n ∷ ns)) (sym (f .split ∙ ap (λ (c : ℕ). c ∷ f .rest) (sym (eqb-true 35 (f .byte) (f .fits))))) (hash n (w .covered (f .rest) (f .then)) (h .has (f .rest) (f .then)));
 }
 
 has-written : {ns : List Numeral} {p : Pattern} (n : Numeral) → Sixteen n → Has ns p → Has (n ∷ ns) (written n p)
 has-written (hexadecimal ds) r h =
-    has-hash (hexadecimal ds) (within-one (eqb 120) (within-digits ds within-any)) (has-one (eqb 120) (byte-off 120 (λ e. omega arith)) (has-digits 16 (omega arith) ds (r .1) h))
+    has-hash (hexadecimal ds) (cover-exact (ascii "x") (cover-digits ds cover-any)) (has-one (eqb 120) (byte-off 120 (λ e. omega arith)) (has-digits 16 (omega arith) ds (r .1) h))
 has-written (binary ds) r h =
-    has-hash (binary ds) (within-one (eqb 98) (within-digits ds within-any)) (has-one (eqb 98) (byte-off 98 (λ e. omega arith)) (has-digits 2 (omega arith) ds (r .1) h))
+    has-hash (binary ds) (cover-exact (ascii "b") (cover-digits ds cover-any)) (has-one (eqb 98) (byte-off 98 (λ e. omega arith)) (has-digits 2 (omega arith) ds (r .1) h))
 
 has-pairs : (ns : List Numeral) {p : Pattern} (i : ℕ) → AllSixteen ns → Has [] p → Has ns (pairs i (map written ns) p)
 has-pairs [] i a h = h

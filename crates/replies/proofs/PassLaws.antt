@@ -32,17 +32,17 @@ offAt k = record { place = k; off = true }
 -- ---- where a reading stops
 
 module _ (s : List ℕ) (h : Here) where
-  off-stop : (p : Pattern) → h .off ≡ true → stopFrom p s h ≡ some (h .place)
+  pub off-stop : (p : Pattern) → h .off ≡ true → stopFrom p s h ≡ some (h .place)
   off-stop p e = ap (λ (b : Bool). cond b (some (h .place)) (stops p (h .place) (drop (h .place) s))) e
 
   on-stop : (p : Pattern) → h .off ≡ false → stopFrom p s h ≡ stops p (h .place) (drop (h .place) s)
   on-stop p e = ap (λ (b : Bool). cond b (some (h .place)) (stops p (h .place) (drop (h .place) s))) e
 
   -- before a byte, and at the end
-  byte-stop : (p : Pattern) → h .off ≡ false → h .place < length s → stopFrom p s h ≡ stops p (h .place) (getD s (h .place) 0 ∷ drop (suc (h .place)) s)
+  pub byte-stop : (p : Pattern) → h .off ≡ false → h .place < length s → stopFrom p s h ≡ stops p (h .place) (getD s (h .place) 0 ∷ drop (suc (h .place)) s)
   byte-stop p e l = on-stop p e ∙ ap (stops p (h .place)) (drop-cons s (h .place) 0 l)
 
-  last-stop : (p : Pattern) → h .off ≡ false → length s ≤ h .place → stopFrom p s h ≡ stops p (h .place) []
+  pub last-stop : (p : Pattern) → h .off ≡ false → length s ≤ h .place → stopFrom p s h ≡ stops p (h .place) []
   last-stop p e l = on-stop p e ∙ ap (stops p (h .place)) (drop-of-length-le s l)
 
 -- two patterns that do the same before this byte, and at the end
@@ -192,7 +192,7 @@ module _ (v : ℕ) {s : List ℕ} {h r : Here} where
 
 -- ---- the end
 
-all-fit : (k : ℕ) (u : List ℕ) → stops anything k u ≡ none
+pub all-fit : (k : ℕ) (u : List ℕ) → stops anything k u ≡ none
 unfolding stop derive mayEnd
 all-fit k [] = refl
 all-fit k (c ∷ u) = all-fit (suc k) u

@@ -1,54 +1,93 @@
--- Whether a reply's first word is that of `sat`: the turns of the scan, and what it tells of a reply. Assumes nothing.
-use Prim.Native.Nat.{ℕ, suc, _+_, _≤_, _<_}
+-- Whether a reply's first word is that of `sat`, and what that tells of a reply. Assumes nothing.
+use Prim.Native.Nat.{ℕ, suc, _≤_, _<_}
 use mathlib.Core.Path.{_≡_, refl, sym, ap, _∙_}
 use mathlib.Core.Logic.{_↔_}
 use mathlib.Core.Bool.{Bool, true, false, true≢false, false≢true}
+use mathlib.Core.Option.{Option, none, some}
 use mathlib.Core.List.{List, [], _∷_, _++_, map}
-use native.Mathlib.Numerals.{add-one}
+use native.Mathlib.Decide.{decLt}
 use native.Mathlib.Omega.{arith}
 use lib.Dec.{eqb}
-use lib.ListN.{length, getD, drop, drop-of-length-le}
-use lib.Seq.{drop-cons}
+use lib.ListN.{length, getD, drop}
 use borrow.Author.Tests.{eqb-true}
 use Rattle.lists.specs.Ascii.{ascii}
 use Rattle.smtlib.specs.Characters.{whiteSpace}
-use Rattle.grammar.specs.Patterns.{Pattern, one, exact, All, Fits}
-use Rattle.replies.specs.Replies.{listed, claim, Reply}
+use Rattle.grammar.specs.Patterns.{Pattern, anything, one, exact, All, Fits}
+use Rattle.grammar.specs.Stops.{stop, derive, mayEnd, stops}
+use Rattle.grammar.proofs.MachineLaws.{stop-turn, stop-off, stop-same}
+use Rattle.grammar.proofs.PatternLaws.{derive-one, derive-off, derive-many, derive-past}
+use Rattle.replies.specs.declared.Here.{Here}
+use Rattle.replies.specs.Replies.{blanks, listed, claim, Reply}
 use Rattle.replies.specs.Says.{Numeral, written, Claims, Spells, SpellsSetting, Says, unsat, sat}
 use Rattle.replies.specs.Answers.{satFirst}
+use Rattle.replies.specs.Here.{stopFrom, Passes}
 use Rattle.replies.proofs.ByteLaws.{blank-low}
+use Rattle.replies.proofs.PassLaws.{at, byte-stop, last-stop, off-stop, all-fit, none-there}
 use Rattle.replies.proofs.SaysLaws.{reply-says}
 
-pub record Skipping (s : List ℕ) (k : ℕ) : Type 0 where
-  pub inside : k ≤ length s
-  pub same : satFirst s ≡ satFirst (drop k s)
-
-pub skipping-begin : (s : List ℕ) → Skipping s 0
-skipping-begin s = record { inside = omega arith; same = refl }
+-- ---- the first byte that is no blank
 
 first-skip : (c : ℕ) (r : List ℕ) → whiteSpace c ≡ true → satFirst (c ∷ r) ≡ satFirst r
 unfolding satFirst
 first-skip c r e = rw (e, satFirst)
 
-first-at : (c : ℕ) (r : List ℕ) → whiteSpace c ≡ false → satFirst (c ∷ r) ≡ eqb c 115
+first-at : (c : ℕ) (r : List ℕ) → whiteSpace c ≡ false → satFirst (c ∷ r) ≡ eqb 115 c
 unfolding satFirst
 first-at c r e = rw (e, satFirst)
 
-module _ {s : List ℕ} {k : ℕ} (w : Skipping s k) where
-  pub skipping-turn : k < length s → whiteSpace (getD s k 0) ≡ true → Skipping s (k + 1)
-  skipping-turn h e = record { inside = omega arith; same = rw add-one (w .same ∙ ap satFirst (drop-cons s k 0 h) ∙ first-skip (getD s k 0) (drop (suc k) s) e) }
+-- ---- the byte behind the blanks
 
-  pub skipping-at : k < length s → whiteSpace (getD s k 0) ≡ false → eqb (getD s k 0) 115 ≡ satFirst s
-  skipping-at h e = sym (w .same ∙ ap satFirst (drop-cons s k 0 h) ∙ first-at (getD s k 0) (drop (suc k) s) e)
+-- a text that begins so, whatever follows
+abbrev word : Pattern
+word = one (eqb 115) anything
 
-  pub skipping-end : length s ≤ k → false ≡ satFirst s
-  unfolding satFirst
-  skipping-end h = sym (w .same ∙ ap satFirst (drop-of-length-le s h))
+abbrev whole : Option ℕ → Bool
+whole none = true
+whole (some k) = false
+
+word-stop : (k c : ℕ) (s : List ℕ) → whole (stops word k (c ∷ s)) ≡ eqb 115 c
+word-stop k c s = go (eqb 115 c) refl
+  where
+    go : (t : Bool) → eqb 115 c ≡ t → whole (stops word k (c ∷ s)) ≡ t
+    go true e = ap whole (stop-turn derive mayEnd k c s (derive-one (eqb 115) anything c e) ∙ all-fit (suc k) s)
+    go false e = ap whole (stop-off derive mayEnd k c s (derive-off (eqb 115) anything c e))
+
+first-stop : (k : ℕ) (s : List ℕ) → whole (stops (blanks word) k s) ≡ satFirst s
+unfolding stop mayEnd satFirst
+first-stop k [] = refl
+first-stop k (c ∷ s) = go (whiteSpace c) refl (first-stop (suc k) s)
+  where
+    go : (t : Bool) → whiteSpace c ≡ t → whole (stops (blanks word) (suc k) s) ≡ satFirst s → whole (stops (blanks word) k (c ∷ s)) ≡ satFirst (c ∷ s)
+    go true e h = ap whole (stop-turn derive mayEnd k c s (derive-many whiteSpace word c e)) ∙ h ∙ sym (first-skip c s e)
+    go false e h = ap whole (stop-same derive mayEnd k c s (derive-past whiteSpace word c e)) ∙ word-stop k c s ∙ sym (first-at c s e)
+
+blanks-fit : (k : ℕ) (s : List ℕ) → stops (blanks anything) k s ≡ none
+unfolding stop mayEnd
+blanks-fit k [] = refl
+blanks-fit k (c ∷ s) = go (whiteSpace c) refl (blanks-fit (suc k) s)
+  where
+    go : (t : Bool) → whiteSpace c ≡ t → stops (blanks anything) (suc k) s ≡ none → stops (blanks anything) k (c ∷ s) ≡ none
+    go true e h = stop-turn derive mayEnd k c s (derive-many whiteSpace anything c e) ∙ h
+    go false e h = stop-same derive mayEnd k c s (derive-past whiteSpace anything c e) ∙ all-fit k (c ∷ s)
+
+ended : (k : ℕ) → whole (stops word k []) ≡ false
+unfolding stop mayEnd
+ended k = refl
+
+pub first-peeked : {s : List ℕ} {r : Here} {c : ℕ} → Passes blanks s (at 0) r → c ≡ getD s (r .place) 0 → eqb 115 c ≡ satFirst s
+first-peeked {s} {r} x e = ap (eqb 115) e ∙ sym (sym (first-stop 0 s) ∙ ap whole (x .same word) ∙ there (r .off) refl)
+  where
+    there : (b : Bool) → r .off ≡ b → whole (stopFrom word s r) ≡ eqb 115 (getD s (r .place) 0)
+    there true o = absurd (let z = sym (blanks-fit 0 s) ∙ x .same anything ∙ off-stop s r anything o in let q : _≡_ {A = ℕ} 0 1 = cc in omega arith)
+    there false o = elim (decLt (r .place) (length s)) [
+      | yes l ↦ ap whole (byte-stop s r word o l) ∙ word-stop (r .place) (getD s (r .place) 0) (drop (suc (r .place)) s)
+      | no n ↦ let m : length s ≤ r .place = omega arith in ap whole (last-stop s r word o m) ∙ ended (r .place) ∙ ap (eqb 115) (none-there s (r .place) m)
+    ]
 
 -- the first word's first byte
-first-is : (a : ℕ) (p : Pattern) (b r : List ℕ) → 32 < a → All whiteSpace b → Fits (one (eqb a) p) r → satFirst (b ++ r) ≡ eqb a 115
+first-is : (a : ℕ) (p : Pattern) (b r : List ℕ) → 32 < a → All whiteSpace b → Fits (one (eqb a) p) r → satFirst (b ++ r) ≡ eqb 115 a
 unfolding Fits
-first-is a p [] r l h f = ap satFirst (f .split) ∙ first-at (f .byte) (f .rest) (go (whiteSpace (f .byte)) refl) ∙ ap (λ (c : ℕ). eqb c 115) (sym q)
+first-is a p [] r l h f = ap satFirst (f .split) ∙ first-at (f .byte) (f .rest) (go (whiteSpace (f .byte)) refl) ∙ ap (eqb 115) (sym q)
   where
     q : a ≡ f .byte
     q = eqb-true a (f .byte) (f .fits)
@@ -82,6 +121,13 @@ said : {v : ℕ} {s : List ℕ} → Says v s → satFirst s ≡ true → Setting
 said {s = s} (unsat f) e = absurd (false≢true (sym (claims-first s f) ∙ e))
 said (sat t x) e = (t, x)
 
--- of a reply: some setting is spelled exactly where the first word is that of `sat`
+denied : {v : ℕ} {s : List ℕ} → Says v s → satFirst s ≡ false → Claims s
+denied (unsat f) e = f
+denied (sat t x) e = absurd (true≢false (sym (setting-first x) ∙ e))
+
+-- of a reply: some setting is spelled exactly where the first word is that of `sat`, else unsat is claimed
 pub sat-exactly : (v : ℕ) (s : List ℕ) → Reply v s → (satFirst s ≡ true) ↔ Setting v s
 sat-exactly v s r = (said (reply-says v s r), λ x. setting-first (x .1))
+
+pub unsat-exactly : (v : ℕ) (s : List ℕ) → Reply v s → (satFirst s ≡ false) ↔ Claims s
+unsat-exactly v s r = (denied (reply-says v s r), claims-first s)

@@ -1,8 +1,8 @@
--- A reply is what claims unsat or spells a case, and nothing else. Assumes nothing.
+-- A reply is what claims unsat or spells a setting, and nothing else. Assumes nothing.
 use Prim.Native.Nat.{ℕ, zero, suc}
 use mathlib.Core.Path.{_≡_, refl, ap, subst, _∙_}
 use mathlib.Core.Logic.{_↔_, inl, inr}
-use mathlib.Core.Bool.{Bool, true}
+use mathlib.Core.Bool.{true}
 use mathlib.Core.List.{List, [], _∷_, map}
 use lib.Dec.{eqb, ltb}
 use native.Mathlib.Omega.{arith}
@@ -13,29 +13,11 @@ use Rattle.smtlib.specs.Characters.{whiteSpace}
 use Rattle.smtlib.specs.Tokens.{digitValue}
 use Rattle.wording.specs.Sixteen.{symbolText}
 use Rattle.grammar.specs.Patterns.{Pattern, end, one, many, either, exact, times, All, Fits}
+use Rattle.grammar.proofs.FitLaws.{Covered, cover-one, cover-many, cover-same, cover-exact, cover-left, cover-right, cover-both, Some, Into, into-one, into-many, into-exact, into-by, into-both}
 use Rattle.replies.specs.Replies.{blanks, mark, digitTo, anyValue, pair, pairs, listed, claim, Reply}
 use Rattle.replies.specs.Says.{Numeral, hexadecimal, binary, numberIn, Sixteen, AllSixteen, valued, digits, written, Says, unsat, sat}
 
--- ---- one of a family of patterns, under what stands before it
-
-abbrev Some : {A : Type 0} → (A → Pattern) → List ℕ → Type 0
-Some {A} b s = (x : A) × Fits (b x) s
-
-record Into {A : Type 0} (a : Pattern) (b : A → Pattern) : Type 0 where
-  into : (s : List ℕ) → Fits a s → Some b s
-
-module _ {A : Type 0} {a : Pattern} {b : A → Pattern} where
-  into-one : (t : ℕ → Bool) → Into a b → Into (one t a) (λ x. one t (b x))
-  unfolding Fits
-  into-one t h = record { into = λ s f. let w = h .into (f .rest) (f .then) in (w .0, record { byte = f .byte; rest = f .rest; split = f .split; fits = f .fits; then = w .1 }) }
-
-  into-many : (t : ℕ → Bool) → Into a b → Into (many t a) (λ x. many t (b x))
-  unfolding Fits
-  into-many t h = record { into = λ s f. let w = h .into (f .rest) (f .then) in (w .0, record { bytes = f .bytes; rest = f .rest; split = f .split; fits = f .fits; then = w .1 }) }
-
-into-exact : {A : Type 0} {a : Pattern} {b : A → Pattern} (w : List ℕ) → Into a b → Into (exact w a) (λ x. exact w (b x))
-into-exact [] h = h
-into-exact (c ∷ w) h = into-one (eqb c) (into-exact w h)
+-- ---- what a reply spells
 
 into-digits : {A : Type 0} {a : Pattern} {b : A → Pattern} (ds : List ℕ) → Into a b → Into (digits ds a) (λ x. digits ds (b x))
 into-digits [] h = h
@@ -52,16 +34,6 @@ into-pair i h = into-many whiteSpace (into-one (eqb 40) (into-many whiteSpace (i
 
 into-mark : {A : Type 0} {a : Pattern} {b : A → Pattern} (d : ℕ) → Into a b → Into (mark d a) (λ x. mark d (b x))
 into-mark d h = into-many whiteSpace (into-one (eqb d) h)
-
--- by another name for the family
-into-by : {A B : Type 0} {a : Pattern} {b : A → Pattern} {e : B → Pattern} (f : A → B) → Into a b → ((x : A) → b x ≡ e (f x)) → Into a e
-into-by f h q = record { into = λ s g. let w = h .into s g in (f (w .0), subst (λ (p : Pattern). Fits p s) (q (w .0)) (w .1)) }
-
--- one family behind another
-into-both : {A B : Type 0} {a : Pattern} {b : A → Pattern} {e : A → B → Pattern} → Into a b → ((x : A) → Into (b x) (e x)) → Into a (λ (x : A × B). e (x .0) (x .1))
-into-both h g = record { into = λ s f. let w = h .into s f in let u = g (w .0) .into s (w .1) in ((w .0, u .0), u .1) }
-
--- ---- digits, values, pairs
 
 abbrev Digits : ℕ → ℕ → Type 0
 Digits base n = (ds : List ℕ) × (length ds ≡ n) × All (λ d. ltb d base) ds
@@ -113,69 +85,39 @@ into-listed (suc v) = into-by (λ x. x) (into-mark 40 (into-pairs (suc v) 0 (mar
     some-listed [] e = absurd (let z : zero ≡ suc v = e in omega arith)
     some-listed (n ∷ ns) e = refl
 
--- ---- and back: what spells a case is a reply
+-- ---- and back: what spells a setting is a reply
 
-record Within (a b : Pattern) : Type 0 where
-  within : (s : List ℕ) → Fits a s → Fits b s
+cover-digits : (base : ℕ) {p q : Pattern} → Covered p q → (ds : List ℕ) → All (λ d. ltb d base) ds → Covered (digits ds p) (times (length ds) (digitTo base) q)
+cover-digits base h [] a = h
+cover-digits base h (d ∷ ds) a = cover-one (valued d) (digitTo base) (λ c e. ap (λ (k : ℕ). ltb k base) (eqb-true (digitValue c) d e) ∙ a .0) (cover-digits base h ds (a .1))
 
-module _ {a b : Pattern} where
-  within-one : (t u : ℕ → Bool) → ((c : ℕ) → t c ≡ true → u c ≡ true) → Within a b → Within (one t a) (one u b)
-  unfolding Fits
-  within-one t u i h = record { within = λ s f. record { byte = f .byte; rest = f .rest; split = f .split; fits = i (f .byte) (f .fits); then = h .within (f .rest) (f .then) } }
+cover-written : {p q : Pattern} → Covered p q → (n : Numeral) → Sixteen n → Covered (written n p) (anyValue q)
+cover-written {p} {q} h (hexadecimal ds) r =
+    cover-exact (ascii "#")
+    (cover-both
+    (cover-exact (ascii "x") (subst (λ (k : ℕ). Covered (digits ds p) (times k (digitTo 16) q)) (r .0) (cover-digits 16 h ds (r .1))))
+    (cover-left (exact (ascii "b") (times 16 (digitTo 2) q))))
+cover-written {p} {q} h (binary ds) r =
+    cover-exact (ascii "#")
+    (cover-both
+    (cover-exact (ascii "b") (subst (λ (k : ℕ). Covered (digits ds p) (times k (digitTo 2) q)) (r .0) (cover-digits 2 h ds (r .1))))
+    (cover-right (exact (ascii "x") (times 4 (digitTo 16) q))))
 
-  within-many : (t : ℕ → Bool) → Within a b → Within (many t a) (many t b)
-  unfolding Fits
-  within-many t h = record { within = λ s f. record { bytes = f .bytes; rest = f .rest; split = f .split; fits = f .fits; then = h .within (f .rest) (f .then) } }
+cover-mark : {p q : Pattern} (d : ℕ) → Covered p q → Covered (mark d p) (mark d q)
+cover-mark d h = cover-many whiteSpace (cover-exact (d ∷ []) h)
 
-within-same : {a : Pattern} → Within a a
-within-same = record { within = λ s f. f }
+cover-pairs : (p : Pattern) (ns : List Numeral) (i : ℕ) → AllSixteen ns → Covered (pairs i (map written ns) p) (pairs i (replicate (length ns) anyValue) p)
+cover-pairs p [] i a = cover-same
+cover-pairs p (n ∷ ns) i a =
+    cover-mark 40
+    (cover-many whiteSpace
+    (cover-exact (symbolText i)
+    (cover-one whiteSpace whiteSpace (λ c e. e)
+    (cover-many whiteSpace (cover-written (cover-mark 41 (cover-pairs p ns (suc i) (a .1))) n (a .0))))))
 
-within-exact : {a b : Pattern} (w : List ℕ) → Within a b → Within (exact w a) (exact w b)
-within-exact [] h = h
-within-exact (c ∷ w) h = within-one (eqb c) (eqb c) (λ d e. e) (within-exact w h)
-
-within-left : {a : Pattern} (b : Pattern) → Within a (either a b)
-unfolding Fits
-within-left b = record { within = λ s f. inl f }
-
-within-right : (a : Pattern) {b : Pattern} → Within b (either a b)
-unfolding Fits
-within-right a = record { within = λ s f. inr f }
-
-within-both : {a b c : Pattern} → Within a b → Within b c → Within a c
-within-both h g = record { within = λ s f. g .within s (h .within s f) }
-
-within-digits : (base : ℕ) {p q : Pattern} → Within p q → (ds : List ℕ) → All (λ d. ltb d base) ds → Within (digits ds p) (times (length ds) (digitTo base) q)
-within-digits base h [] a = h
-within-digits base h (d ∷ ds) a = within-one (valued d) (digitTo base) (λ c e. ap (λ (k : ℕ). ltb k base) (eqb-true (digitValue c) d e) ∙ a .0) (within-digits base h ds (a .1))
-
-within-written : {p q : Pattern} → Within p q → (n : Numeral) → Sixteen n → Within (written n p) (anyValue q)
-within-written {p} {q} h (hexadecimal ds) r =
-    within-exact (ascii "#")
-    (within-both
-    (within-exact (ascii "x") (subst (λ (k : ℕ). Within (digits ds p) (times k (digitTo 16) q)) (r .0) (within-digits 16 h ds (r .1))))
-    (within-left (exact (ascii "b") (times 16 (digitTo 2) q))))
-within-written {p} {q} h (binary ds) r =
-    within-exact (ascii "#")
-    (within-both
-    (within-exact (ascii "b") (subst (λ (k : ℕ). Within (digits ds p) (times k (digitTo 2) q)) (r .0) (within-digits 2 h ds (r .1))))
-    (within-right (exact (ascii "x") (times 4 (digitTo 16) q))))
-
-within-mark : {p q : Pattern} (d : ℕ) → Within p q → Within (mark d p) (mark d q)
-within-mark d h = within-many whiteSpace (within-exact (d ∷ []) h)
-
-within-pairs : (p : Pattern) (ns : List Numeral) (i : ℕ) → AllSixteen ns → Within (pairs i (map written ns) p) (pairs i (replicate (length ns) anyValue) p)
-within-pairs p [] i a = within-same
-within-pairs p (n ∷ ns) i a =
-    within-mark 40
-    (within-many whiteSpace
-    (within-exact (symbolText i)
-    (within-one whiteSpace whiteSpace (λ c e. e)
-    (within-many whiteSpace (within-written (within-mark 41 (within-pairs p ns (suc i) (a .1))) n (a .0))))))
-
-within-listed : (ns : List Numeral) → AllSixteen ns → Within (listed (map written ns)) (listed (replicate (length ns) anyValue))
-within-listed [] a = within-same
-within-listed (n ∷ ns) a = within-mark 40 (within-pairs (mark 41 (blanks end)) (n ∷ ns) 0 a)
+cover-listed : (ns : List Numeral) → AllSixteen ns → Covered (listed (map written ns)) (listed (replicate (length ns) anyValue))
+cover-listed [] a = cover-same
+cover-listed (n ∷ ns) a = cover-mark 40 (cover-pairs (mark 41 (blanks end)) (n ∷ ns) 0 a)
 
 -- ---- a reply, and what it says
 
@@ -196,10 +138,10 @@ reply-says v s f = go (f .then)
         })
 
 pub says-reply : (v : ℕ) (s : List ℕ) → Says v s → Reply v s
-says-reply v s (unsat f) = within-many whiteSpace (within-left (exact (ascii "sat") (listed (replicate v anyValue)))) .within s f
+says-reply v s (unsat f) = cover-many whiteSpace (cover-left (exact (ascii "sat") (listed (replicate v anyValue)))) .covered s f
 says-reply v s (sat t x) =
     subst (λ (k : ℕ). Reply k s) (x .each)
-    (within-many whiteSpace (within-both (within-exact (ascii "sat") (within-listed (x .numerals) (x .sixteen))) (within-right (exact (ascii "unsat") claim))) .within s (x .spelled))
+    (cover-many whiteSpace (cover-both (cover-exact (ascii "sat") (cover-listed (x .numerals) (x .sixteen))) (cover-right (exact (ascii "unsat") claim))) .covered s (x .spelled))
 
 -- a reply says something, and each way of saying it is a reply
 pub reply-exactly : (v : ℕ) (s : List ℕ) → Reply v s ↔ Says v s

@@ -2,13 +2,13 @@
 use Prim.Native.Nat.{ℕ, suc, _+_, _*_, _/_, _%_, _^_, _<_}
 use mathlib.Core.Path.{_≡_, refl, ap₂, subst}
 use mathlib.Core.Logic.{_↔_}
-use mathlib.Core.Bool.{Bool, true}
+use mathlib.Core.Bool.{true}
 use mathlib.Core.List.{List, [], _∷_, _++_, map}
 use native.Mathlib.Omega.{arith}
-use lib.Dec.{eqb, ltb}
+use lib.Dec.{ltb}
 use lib.IntN.{ℤ}
 use lib.ListN.{length, length-map}
-use borrow.Author.Tests.{eq-eqb, ltb-true, lt-ltb}
+use borrow.Author.Tests.{ltb-true, lt-ltb}
 use Rattle.lists.specs.Ascii.{ascii}
 use Rattle.lists.specs.Places.{allBelow}
 use Rattle.lists.proofs.TestLaws.{all-true}
@@ -19,6 +19,7 @@ use Rattle.smtlib.specs.Characters.{whiteSpace, digitChar}
 use Rattle.smtlib.specs.Tokens.{digitValue}
 use Rattle.wording.specs.Sixteen.{hexDigit, hexText, symbolText}
 use Rattle.grammar.specs.Patterns.{Pattern, end, one, exact, Fits}
+use Rattle.grammar.proofs.FitLaws.{Fit, fit-one, fit-none, fit-exact}
 use Rattle.replies.specs.Replies.{valueBits, blanks, mark, pairs, listed}
 use Rattle.replies.specs.Says.{Numeral, hexadecimal, numberIn, AllSixteen, valued, written, SpellsSetting, SpellsCase}
 use Rattle.replies.proofs.ByteLaws.{space}
@@ -67,29 +68,12 @@ sixteen-all (x ∷ t) = ((refl, (digit-is (x / 4096), (digit-is (x / 256), (digi
 
 -- ---- the text fits
 
-record Fit (p : Pattern) (s : List ℕ) : Type 0 where
-  fit : Fits p s
-
-module _ {p : Pattern} {s : List ℕ} where
-  fit-one : (t : ℕ → Bool) (c : ℕ) → t c ≡ true → Fit p s → Fit (one t p) (c ∷ s)
-  unfolding Fits
-  fit-one t c e f = record { fit = record { byte = c; rest = s; split = refl; fits = e; then = f .fit } }
-
-  -- no blank
-  fit-none : Fit p s → Fit (blanks p) s
-  unfolding Fits
-  fit-none f = record { fit = record { bytes = []; rest = s; split = refl; fits = tt; then = f .fit } }
-
-fit-exact : (w : List ℕ) {p : Pattern} {s : List ℕ} → Fit p s → Fit (exact w p) (w ++ s)
-fit-exact [] f = f
-fit-exact (c ∷ w) f = fit-one (eqb c) c (eq-eqb c c refl) (fit-exact w f)
-
 fit-mark : (c : ℕ) {p : Pattern} {s : List ℕ} → Fit p s → Fit (mark c p) (c ∷ s)
-fit-mark c f = fit-none (fit-exact (c ∷ []) f)
+fit-mark c f = fit-none whiteSpace (fit-exact (c ∷ []) f)
 
 fit-end : Fit (blanks end) []
 unfolding Fits
-fit-end = fit-none (record { fit = refl })
+fit-end = fit-none whiteSpace (record { fit = refl })
 
 fit-digit : (d : ℕ) {p : Pattern} {s : List ℕ} → d < 16 → Fit p s → Fit (one (valued d) p) (hexDigit d ∷ s)
 unfolding digitValue hexDigit digitChar allBelow
@@ -101,7 +85,7 @@ fit-value x f = fit-exact (ascii "#x") (fit-digit _ (digit-low (x / 4096)) (fit-
 
 fit-pairs : (i : ℕ) (t : List ℕ) {p : Pattern} {s : List ℕ} → Fit p s → Fit (pairs i (map written (map numeralOf t)) p) (pairsText i t s)
 fit-pairs i [] f = f
-fit-pairs i (x ∷ t) f = fit-mark 40 (fit-none (fit-exact (symbolText i) (fit-one whiteSpace 32 space (fit-none (fit-value x (fit-mark 41 (fit-pairs (suc i) t f)))))))
+fit-pairs i (x ∷ t) f = fit-mark 40 (fit-none whiteSpace (fit-exact (symbolText i) (fit-one whiteSpace 32 space (fit-none whiteSpace (fit-value x (fit-mark 41 (fit-pairs (suc i) t f)))))))
 
 fit-listed : (t : List ℕ) → Fit (listed (map written (map numeralOf t))) (listText t)
 fit-listed [] = fit-end
@@ -112,7 +96,7 @@ spells-setting t h = record {
   numerals = map numeralOf t;
   each = length-map t numeralOf;
   sixteen = sixteen-all t;
-  spelled = fit-none (fit-exact (ascii "sat") (fit-listed t)) .fit;
+  spelled = fit-none whiteSpace (fit-exact (ascii "sat") (fit-listed t)) .fit;
   numbers = numbers-of t h;
 }
 

@@ -1,4 +1,4 @@
--- The replies for so many variables (document 02, item 1), 16 bits to a value.
+-- The replies to a script with v variables (document 02, item 1), in the item's order. A comment is none of these bytes.
 use Prim.Native.Nat.{ℕ, suc}
 use mathlib.Core.Bool.{Bool}
 use mathlib.Core.List.{List, [], _∷_}
@@ -10,7 +10,7 @@ use Rattle.smtlib.specs.Tokens.{digitValue}
 use Rattle.wording.specs.Sixteen.{symbolText}
 use Rattle.grammar.specs.Patterns.{Pattern, end, anything, one, many, either, exact, times, Fits}
 
--- blanks, as many as there are, and then
+-- blanks as SMT-LIB has them, any number, and then
 abbrev pub blanks : Pattern → Pattern
 blanks p = many whiteSpace p
 
@@ -18,23 +18,9 @@ blanks p = many whiteSpace p
 abbrev pub mark : ℕ → Pattern → Pattern
 mark c p = blanks (one (eqb c) p)
 
--- a digit to the base
-abbrev pub digitTo : ℕ → ℕ → Bool
-digitTo base c = ltb (digitValue c) base
-
--- the bits of a value, and how many digits of each kind spell it
-abbrev pub valueBits : ℕ
-valueBits = 16
-
-abbrev pub hexDigits : ℕ
-hexDigits = 4
-
-abbrev pub binaryDigits : ℕ
-binaryDigits = 16
-
--- any value: four hexadecimal digits of either case, or sixteen binary ones
-abbrev pub anyValue : Pattern → Pattern
-anyValue p = exact (ascii "#") (either (exact (ascii "x") (times hexDigits (digitTo 16) p)) (exact (ascii "b") (times binaryDigits (digitTo 2) p)))
+-- behind `unsat`: a blank or the end; the rest isn't read
+abbrev pub claim : Pattern
+claim = either end (one whiteSpace anything)
 
 -- a variable and its value: two words, so at least one blank between them
 abbrev pub pair : ℕ → (Pattern → Pattern) → Pattern → Pattern
@@ -45,18 +31,32 @@ abbrev pub pairs : ℕ → List (Pattern → Pattern) → Pattern → Pattern
 pairs i [] p = p
 pairs i (value ∷ values) p = pair i value (pairs (suc i) values p)
 
--- behind `sat`: the list, where there are variables
+-- behind `sat`: where there are variables, the list
 abbrev pub listed : List (Pattern → Pattern) → Pattern
 listed [] = blanks end
 listed (value ∷ values) = mark 40 (pairs 0 (value ∷ values) (mark 41 (blanks end)))
 
--- behind `unsat`: a blank or the end, and the rest isn't read
-abbrev pub claim : Pattern
-claim = either end (one whiteSpace anything)
-
--- a reply, the values spelled so
+-- a reply whose values are spelled so
 abbrev pub replyOf : List (Pattern → Pattern) → Pattern
 replyOf values = blanks (either (exact (ascii "unsat") claim) (exact (ascii "sat") (listed values)))
+
+-- the bits of a value, and how many digits of each kind spell them
+abbrev pub valueBits : ℕ
+valueBits = 16
+
+abbrev pub hexDigits : ℕ
+hexDigits = 4
+
+abbrev pub binaryDigits : ℕ
+binaryDigits = 16
+
+-- a digit to the base, a letter in either case
+abbrev pub digitTo : ℕ → ℕ → Bool
+digitTo base c = ltb (digitValue c) base
+
+-- any value: four hexadecimal digits or sixteen binary ones
+abbrev pub anyValue : Pattern → Pattern
+anyValue p = exact (ascii "#") (either (exact (ascii "x") (times hexDigits (digitTo 16) p)) (exact (ascii "b") (times binaryDigits (digitTo 2) p)))
 
 -- a reply for v variables
 abbrev pub replyFor : ℕ → Pattern

@@ -1,4 +1,4 @@
--- What a reply says: that the script is claimed unsatisfiable, or a number for each variable.
+-- What a reply says (document 02, item 1): that the script is claimed unsatisfiable, or a number for each variable.
 use Prim.Native.Nat.{ℕ}
 use mathlib.Core.Path.{_≡_}
 use mathlib.Core.Bool.{Bool}

@@ -38,38 +38,38 @@ pub enum Reached {
 fn blank(c: u8) -> bool
     ensures { λ r. ⌜ r ≡ whiteSpace c ⌝ }
 {
-    if c == 32 {
+    if c == b' ' {
         return true;
     }
-    if c == 10 {
+    if c == b'\n' {
         return true;
     }
-    if c == 9 {
+    if c == b'\t' {
         return true;
     }
-    c == 13
+    c == b'\r'
 }
 
 // A digit's value, in either case; 16 for any other byte.
 pub fn digit(c: u8) -> u8
     ensures { λ r. ⌜ r ≡ digitValue c ⌝ }
 {
-    if c < 48 {
+    if c < b'0' {
         return 16;
     }
-    if c <= 57 {
-        return c - 48;
+    if c <= b'9' {
+        return c - b'0';
     }
-    if c < 65 {
+    if c < b'A' {
         return 16;
     }
-    if c <= 70 {
+    if c <= b'F' {
         return c - 55;
     }
-    if c < 97 {
+    if c < b'a' {
         return 16;
     }
-    if c <= 102 {
+    if c <= b'f' {
         return c - 87;
     }
     16
@@ -131,7 +131,7 @@ fn one_digit(reply: &[u8], here: Here, base: u8) -> Here
 }
 
 // All blanks from here on.
-fn all_blanks(reply: &[u8], here: Here) -> Here
+fn blanks(reply: &[u8], here: Here) -> Here
     ensures { λ r. ⌜ Passes blanks (now (reply .entry)) here r ⌝ }
 {
     if here.off {
@@ -168,10 +168,10 @@ fn text(reply: &[u8], here: Here, wanted: &[u8]) -> Here
 }
 
 // Blanks and a parenthesis.
-fn parenthesis(reply: &[u8], here: Here, wanted: u8) -> Here
+fn mark(reply: &[u8], here: Here, wanted: u8) -> Here
     ensures { λ r. ⌜ Passes (mark wanted) (now (reply .entry)) here r ⌝ }
 {
-    byte(reply, all_blanks(reply, here), wanted)
+    byte(reply, blanks(reply, here), wanted)
 }
 
 // So many digits to the base.
@@ -237,27 +237,27 @@ fn symbol(reply: &[u8], here: Here, i: usize) -> Here
 fn opened(reply: &[u8], here: Here, i: usize) -> Here
     ensures { λ r. ⌜ Passes (λ p. mark 40 (blanks (exact (symbolText i) p))) (now (reply .entry)) here r ⌝ }
 {
-    let open = parenthesis(reply, here, b'(');
-    symbol(reply, all_blanks(reply, open), i)
+    let open = mark(reply, here, b'(');
+    symbol(reply, blanks(reply, open), i)
 }
 
 // A variable and its value.
-fn one_pair(reply: &[u8], here: Here, i: usize) -> Here
+fn pair(reply: &[u8], here: Here, i: usize) -> Here
     ensures { λ r. ⌜ Passes (pair i anyValue) (now (reply .entry)) here r ⌝ }
 {
     let gap = one_blank(reply, opened(reply, here, i));
-    let said = value(reply, all_blanks(reply, gap));
-    parenthesis(reply, said, b')')
+    let said = value(reply, blanks(reply, gap));
+    mark(reply, said, b')')
 }
 
 // Each variable once, in order.
-fn all_pairs(reply: &[u8], here: Here, count: usize) -> Here
+fn pairs(reply: &[u8], here: Here, count: usize) -> Here
     ensures { λ r. ⌜ Passes (pairs 0 (replicate count anyValue)) (now (reply .entry)) here r ⌝ }
 {
     let mut h = here;
     let mut i: usize = 0;
     while i < count {
-        h = one_pair(reply, h, i);
+        h = pair(reply, h, i);
         i += 1;
     }
     h
@@ -268,11 +268,11 @@ fn list(reply: &[u8], here: Here, count: usize) -> Here
     ensures { λ r. ⌜ stopFrom (listed (replicate count anyValue)) (now (reply .entry)) here ≡ stopFrom end (now (reply .entry)) r ⌝ }
 {
     if count == 0 {
-        return all_blanks(reply, here);
+        return blanks(reply, here);
     }
-    let open = parenthesis(reply, here, b'(');
-    let close = parenthesis(reply, all_pairs(reply, open, count), b')');
-    all_blanks(reply, close)
+    let open = mark(reply, here, b'(');
+    let close = mark(reply, pairs(reply, open, count), b')');
+    blanks(reply, close)
 }
 
 // The reply must end here.
@@ -328,7 +328,7 @@ pub fn reach(reply: &[u8], count: usize) -> Reached
         place: 0,
         off: false,
     };
-    let word = all_blanks(reply, start);
+    let word = blanks(reply, start);
     if peek(reply, word) == b'u' {
         return unsat(reply, word);
     }
@@ -339,13 +339,9 @@ pub fn reach(reply: &[u8], count: usize) -> Reached
 pub fn says_sat(reply: &[u8]) -> bool
     ensures { λ r. ⌜ r ≡ satFirst (now (reply .entry)) ⌝ }
 {
-    let mut k: usize = 0;
-    while k < reply.len() {
-        if blank(reply[k]) {
-            k += 1;
-        } else {
-            return reply[k] == 115;
-        }
-    }
-    false
+    let start = Here {
+        place: 0,
+        off: false,
+    };
+    b's' == peek(reply, blanks(reply, start))
 }

@@ -1,6 +1,6 @@
 -- The script of a rule (document 01, "The script"; document 02, item 1), in any form: a list of lines, each ended by one line feed.
 use Prim.Native.Nat.{ℕ, suc}
-use mathlib.Core.Bool.{true, false}
+use mathlib.Core.Bool.{Bool, true, false}
 use mathlib.Core.List.{List, [], _∷_, _++_, map}
 use Rattle.lists.specs.Ascii.{ascii}
 use Rattle.lists.specs.Joined.{joined}
@@ -20,6 +20,11 @@ inDomain i d = conj (atMost (const (d .low)) (var i)) (atMost (var i) (const (d 
 abbrev pub claims : ℕ → List Variable → Tree Truth → List (Tree Truth)
 claims i [] goal = neg goal ∷ []
 claims i (v ∷ vs) goal = inDomain i (v .domain) ∷ claims (suc i) vs goal
+
+-- what only a script with models has
+abbrev pub onlyWith : {A : Type 0} → Bool → List A → List A
+onlyWith true x = x
+onlyWith false x = []
 
 -- the lines, in a form
 module _ (f : Form) where
@@ -43,18 +48,14 @@ module _ (f : Form) where
   valuesAsked [] = []
   valuesAsked (v ∷ vs) = (ascii "(get-value (" ++ (f .symbol 0 ++ (furtherSymbols 1 vs ++ ascii "))"))) ∷ []
 
-  -- lines that only a script with models has
-  abbrev pub withModels : List (List ℕ) → List (List ℕ)
-  withModels ls = elim (f .models) [ true ↦ ls | false ↦ [] ]
-
   abbrev pub linesOf : Rule → List (List ℕ)
   linesOf r =
-      withModels (ascii "(set-option :produce-models true)" ∷ [])
+      onlyWith (f .models) (ascii "(set-option :produce-models true)" ∷ [])
       ++ (ascii "(set-logic QF_UFBV)"
       ∷ (declarations 0 (r .variables)
       ++ (map assertion (claims 0 (r .variables) (r .goal))
       ++ (ascii "(check-sat)"
-      ∷ (withModels (valuesAsked (r .variables))
+      ∷ (onlyWith (f .models) (valuesAsked (r .variables))
       ++ (ascii "(exit)" ∷ []))))))
 
 -- a line, and a line feed behind it

@@ -25,12 +25,12 @@ use Rattle.reading.proofs.RuleLaws.{accepted-counted, accepted-sound}
 use Rattle.wording.specs.Text.{textStep, text}
 use Rattle.wording.specs.Sixteen.{literal, symbolText}
 use Rattle.wording.specs.Form.{sixteen}
-use Rattle.wording.specs.Script.{claims, declarations, assertion, furtherSymbols, valuesAsked, withModels, ended, script}
+use Rattle.wording.specs.Script.{onlyWith, claims, declarations, assertion, furtherSymbols, valuesAsked, ended, script}
 use Rattle.lines.specs.Lines.{declarationLine, rangeLine, furtherSymbol, valuesLine, getValue, valuesEnd, LinesSize}
 use Rattle.lines.proofs.LineLaws.{lines-short, values-short}
 use Rattle.terms.specs.Texts.{AcceptedNode, textAt}
 use Rattle.terms.proofs.TextLaws.{text-short}
-use Rattle.writer.specs.Frame.{produceModels, setLogic, goalStart, goalEnd, exitLine, onlyWith, openingLines, goalLines, endingLines, goalBytes, frameBytes, modelsBytes}
+use Rattle.writer.specs.Frame.{produceModels, setLogic, goalStart, goalEnd, exitLine, openingLines, goalLines, endingLines, goalBytes, frameBytes, modelsBytes}
 use Rattle.writer.specs.Writes.{enoughRoom}
 
 -- ---- what only a script with models has
@@ -45,7 +45,7 @@ only-short true t = omega arith
 only-short false t = omega arith
 
 -- lines that only a script with models has
-with-models : (m : Bool) (ls : List (List ℕ)) → joined ended (withModels (sixteen m) ls) ≡ onlyWith m (joined ended ls)
+with-models : (m : Bool) (ls : List (List ℕ)) → joined ended (onlyWith m ls) ≡ onlyWith m (joined ended ls)
 with-models true ls = refl
 with-models false ls = refl
 
@@ -98,7 +98,7 @@ module _ (m : Bool) where
   asserted t = assertion (sixteen m) t
 
   abbrev optioned : List (List ℕ)
-  optioned = withModels (sixteen m) (ascii "(set-option :produce-models true)" ∷ [])
+  optioned = onlyWith m (ascii "(set-option :produce-models true)" ∷ [])
 
   abbrev declared : List ℕ → List (List ℕ)
   declared s = declarations (sixteen m) 0 (ruleIn s .variables)
@@ -107,7 +107,7 @@ module _ (m : Bool) where
   claimed s = map asserted (claims 0 (ruleIn s .variables) (ruleIn s .goal))
 
   abbrev asked : List ℕ → List (List ℕ)
-  asked s = withModels (sixteen m) (valuesAsked (sixteen m) (ruleIn s .variables))
+  asked s = onlyWith m (valuesAsked (sixteen m) (ruleIn s .variables))
 
   abbrev negated : List ℕ → List ℕ
   negated s = ended (asserted (neg (ruleIn s .goal)))

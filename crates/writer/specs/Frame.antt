@@ -1,11 +1,12 @@
 -- Follows the code: the script's texts besides those of variables and of the goal, and its first and last lines.
 use Prim.Native.Nat.{ℕ, _+_}
-use mathlib.Core.Bool.{Bool, true, false}
-use mathlib.Core.List.{List, [], _++_}
+use mathlib.Core.Bool.{Bool}
+use mathlib.Core.List.{List, _++_}
 use lib.ListN.{length}
 use Rattle.lists.specs.Ascii.{ascii}
 use Rattle.lists.specs.Joined.{joinedBelow}
 use Rattle.layout.specs.Parts.{goalAt}
+use Rattle.wording.specs.Script.{onlyWith}
 use Rattle.lines.specs.Lines.{declarationLine, valuesLine}
 use Rattle.terms.specs.Texts.{textAt}
 
@@ -24,11 +25,6 @@ goalEnd = ascii "))\n(check-sat)\n"
 
 abbrev pub exitLine : List ℕ
 exitLine = ascii "(exit)\n"
-
--- a text that only a script with models has
-abbrev pub onlyWith : Bool → List ℕ → List ℕ
-onlyWith true t = t
-onlyWith false t = []
 
 -- the lines before the ranges of n variables
 unfoldable pub openingLines : Bool → ℕ → List ℕ

@@ -1,12 +1,12 @@
--- `replies::all_blanks` meets its contract. Invariant: the blanks from the present byte on are left. Assumes nothing.
+-- `replies::blanks` meets its contract. Invariant: the blanks from the present byte on are left. Assumes nothing.
 use Prim.Native.Nat.{_-_}
 use mathlib.Core.Path.{sym, _∙_}
 use borrow.Author.Needs.{needs}
 use lib.ListN.{length}
 use Rattle.replies.specs.Replies.{blanks}
 use Rattle.replies.proofs.PassLaws.{at, Left, left-all, pass-off, pass-on, blanks-turn, blanks-done, blanks-last}
-use Rattle.replies.proofs.all_blanks.Statement.{statement}
-use Rattle.replies.proofs.all_blanks.Tie as tie
+use Rattle.replies.proofs.blanks.Statement.{statement}
+use Rattle.replies.proofs.blanks.Tie as tie
 
 abbrev Inv-loop : tie.InvT-loop
 Inv-loop reply k₀ k = Left blanks blanks reply (at k₀) (at k)
@@ -27,8 +27,8 @@ returns-2 c =
 returns-3 : tie.Need-returns-3 Inv-loop μ-loop
 returns-3 c = pass-on (c .before .before .if1 .left) (blanks-last (c .before .loop .inv) (c .loop-test .left))
 
-pub all-blanks-spec : {M : Type 1} → statement M
-all-blanks-spec =
+pub blanks-spec : {M : Type 1} → statement M
+blanks-spec =
     tie.close
     (tie.spec
     Inv-loop

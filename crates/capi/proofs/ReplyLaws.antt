@@ -1,0 +1,59 @@
+-- The numbers that `reply` and `digits` give in C tell their answers. Assumes nothing.
+use Prim.Native.Nat.{ℕ, _+_, _-_, _*_, _/_, _%_, _^_, _≤_, _<_}
+use mathlib.Core.Path.{_≡_, refl, sym, ap, _∙_}
+use mathlib.Core.List.{List}
+use mathlib.Core.Option.{Option, none, some}
+use native.Mathlib.Decide.{decEq, decLt}
+use native.Mathlib.Omega.{arith}
+use borrow.Author.Tests.{lt-ltb, le-ltb}
+use denote.Ref.{RefT}
+use lib.ListN.{length}
+use Rattle.lists.proofs.PartLaws.{part-size}
+use Rattle.refusals.specs.declared.Refusal.{Refusal}
+use Rattle.digits.specs.Hashes.{digitsPlace, digitsSize}
+use Rattle.trial.specs.declared.Replied.{Replied}
+use Rattle.trial.specs.declared.Replied.the-variants.{Unsat, Fails, Refused}
+use Rattle.trial.specs.Replies.{Replies}
+use Rattle.trial.specs.Digits.{DigitsGiven, DigitsPart, DigitsSpan}
+use Rattle.trial.proofs.Exact.{reply-small}
+use Rattle.trial.proofs.Believed.{digits-inside}
+use Rattle.capi.specs.Codes.{refusalCode, codeSaid, tellable, replyCode, ReplyCodes, DigitsCodes}
+use Rattle.capi.proofs.CodeLaws.{code-tells}
+
+-- ---- a place that 48 bits hold
+pub low-place : (place : ℕ) → place < 2 ^ 48 → (place ≡ tellable place) × (place < 2 ^ 48)
+low-place place l = (sym (rw (lt-ltb place (2 ^ 48) l)), l)
+
+pub high-place : (place : ℕ) → 2 ^ 48 ≤ place → (2 ^ 48 - 1 ≡ tellable place) × (2 ^ 48 - 1 < 2 ^ 48)
+high-place place l = (sym (rw (le-ltb place (2 ^ 48) l)), omega arith)
+
+tellable-small : (place : ℕ) → tellable place < 2 ^ 48
+tellable-small place = elim (decLt place (2 ^ 48)) [ yes l ↦ rw (sym (low-place place l .0)) l | no l ↦ rw (sym (high-place place (omega arith) .0)) (omega arith) ]
+
+-- ---- reply
+module _ {s reply : List ℕ} {a : Replied} (h : Replies s reply a) where
+  pub reply-code : {b : Replied} {n : ℕ} → a ≡ b → n ≡ replyCode b → ReplyCodes s reply n
+  reply-code d e = record { answer = a; replies = h; code = e ∙ ap replyCode (sym d) }
+
+-- the refusal with its place, as far as 48 bits hold it; or 0 and 1
+abbrev pub repliedTold : Replied → Option Refusal × ℕ
+repliedTold Unsat = (none, 0)
+repliedTold Fails = (none, 1)
+repliedTold (Refused r) = (some (record { number = r .number; place = tellable (r .place) }), 0)
+
+pub reply-tells : {s reply : List ℕ} {r : ℕ} (c : ReplyCodes s reply r) → codeSaid r ≡ repliedTold (c .answer)
+reply-tells {s} {reply} c = ap codeSaid (c .code) ∙ go (c .answer) (c .replies)
+  where
+    go : (a : Replied) → Replies s reply a → codeSaid (replyCode a) ≡ repliedTold a
+    go Unsat h = code-tells none 0 (λ r e. absurd (let z : _≡_ {A = ℕ} 0 1 = cc in omega arith)) (λ e. omega arith)
+    go Fails h = code-tells none 1 (λ r e. absurd (let z : _≡_ {A = ℕ} 0 1 = cc in omega arith)) (λ e. omega arith)
+    go (Refused q) h = code-tells (some (record { number = q .number; place = tellable (q .place) })) 0 (λ r e. ?) (λ e. omega arith)
+
+-- ---- digits
+pub digits-code-once : {s reply : List ℕ} {i r t : ℕ} → DigitsCodes s reply i r → DigitsCodes s reply i t → r ≡ t
+digits-code-once {s} {reply} {i} {r} {t} h g = elim (decEq r t) [
+  | yes e ↦ e
+  | no n ↦
+      let f : DigitsGiven s reply i → digitsPlace i reply < 2 ^ 48 → ⊥ = λ d l. n (h .given d l ∙ sym (g .given d l)) in
+      absurd (n (h .absent f ∙ sym (g .absent f)))
+]
