@@ -40,6 +40,7 @@ mod replies;
 mod reply_edges;
 mod reply_met;
 mod reply_questions;
+mod reply_random;
 mod reply_required;
 mod reply_rewrites;
 mod reply_subjects;
@@ -68,7 +69,7 @@ use trial::{Output, Part, PARTS};
 type Make = fn(&mut Random, &mut Output);
 
 /// The groups of each part; the first one of a part is small.
-const GROUPS: [(Part, &str, Make); 45] = [
+const GROUPS: [(Part, &str, Make); 46] = [
     (Part::Reading, "edge-cases", edges::make),
     (Part::Reading, "accepted", accepted::make),
     (Part::Reading, "refusal-1", whole_sheet::refusal_1),
@@ -113,6 +114,7 @@ const GROUPS: [(Part, &str, Make); 45] = [
     (Part::Replies, "replies-unsat", replies::unsat),
     (Part::Replies, "replies-rewritten", reply_rewrites::make),
     (Part::Replies, "replies-others", replies::others),
+    (Part::Replies, "replies-at-random", reply_random::make),
     (Part::Replies, "replies-refused-sheets", refused_sheets),
 ];
 

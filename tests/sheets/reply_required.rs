@@ -80,7 +80,7 @@ fn damaged(all: &mut All) {
     );
     add(all, "11: reply, ", "unsat and another byte|a part of unsat");
     add(all, "", "11: reply, with too few variables|11: reply, with too many variables");
-    add(all, "any: reply, ", "of another sheet|any rule");
+    add(all, "any: reply, ", "of another sheet|any rule|several changes|words at random|bytes at random");
 }
 
 fn rewritten(all: &mut All) {
