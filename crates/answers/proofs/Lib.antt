@@ -1,3 +1,4 @@
 pub mod AnswerLaws
+pub mod ReplyLaws
 pub mod Unique
 pub mod Worked

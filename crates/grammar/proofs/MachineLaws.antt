@@ -74,7 +74,7 @@ module _ {State : Type 0} (step : State → ℕ → Option State) (accepts : Sta
     leaves-turn {q} {r} l c {s} e (too-short b n) = too-short (begins-turn l c e b) (λ m. let t = w .turns l c s .0 m in n (subst (λ (x : State). Rest x s) (same-state e (t .1)) (t .2)))
 
     -- where the machine accepts, and where it stops
-    pub data Outcome (q : State) (k : ℕ) (s : List ℕ) : Option ℕ → Type 0 where
+    data Outcome (q : State) (k : ℕ) (s : List ℕ) : Option ℕ → Type 0 where
       member : Rest q s → Outcome q k s none
       leaves : (p : ℕ) → Leaves (Rest q) s p → Outcome q k s (some (k + p))
 
@@ -82,7 +82,7 @@ module _ {State : Type 0} (step : State → ℕ → Option State) (accepts : Sta
     outcome-turn l k c {s} e (member m) = member (w .turns l c s .1 (_, e, m))
     outcome-turn {q} l k c {s} e (leaves p h) = subst (λ (n : ℕ). Outcome q k (c ∷ s) (some n)) (add-suc k p ∙ sym (suc-add k p)) (leaves (suc p) (leaves-turn l c e h))
 
-    pub outcome : (s : List ℕ) (k : ℕ) {q : State} → Live q → Outcome q k s (stop step accepts q k s)
+    outcome : (s : List ℕ) (k : ℕ) {q : State} → Live q → Outcome q k s (stop step accepts q k s)
     outcome [] k {q} l = go (accepts q) refl
       where
         go : (b : Bool) → accepts q ≡ b → Outcome q k [] (stop step accepts q k [])
@@ -95,9 +95,6 @@ module _ {State : Type 0} (step : State → ℕ → Option State) (accepts : Sta
         go (some r) e more = rw (stop-turn k c s e) (outcome-turn l k c e (more r e))
 
     module _ {q : State} (l : Live q) (s : List ℕ) where
-      told : (o : Option ℕ) → stop step accepts q 0 s ≡ o → Outcome q 0 s o
-      told o e = subst (Outcome q 0 s) e (outcome s 0 l)
-
       accepted : {o : Option ℕ} → Outcome q 0 s o → o ≡ none → Rest q s
       accepted (member m) e = m
       accepted (leaves p h) e = absurd (let z : _≡_ {A = ℕ} 0 1 = cc in omega arith)

@@ -13,7 +13,7 @@ use Rattle.grammar.proofs.Definite.{OneWay, Definite}
 use Rattle.grammar.proofs.MachineLaws.{Reads}
 
 -- no list is empty and not
-full : {c : ℕ} {s : List ℕ} → _≡_ {A = List ℕ} [] (c ∷ s) → ⊥
+pub full : {c : ℕ} {s : List ℕ} → _≡_ {A = List ℕ} [] (c ∷ s) → ⊥
 full e = let z : _≡_ {A = ℕ} 0 1 = cc in omega arith
 
 silent : {A : Type 0} {o : Option A} {x : A} → o ≡ none → o ≡ some x → ⊥
@@ -32,7 +32,7 @@ or-true false b e = inr e
 
 -- ---- the end
 
-pub fits-end : (p : Pattern) → Fits p [] → mayEnd p ≡ true
+fits-end : (p : Pattern) → Fits p [] → mayEnd p ≡ true
 unfolding Fits mayEnd
 fits-end end h = refl
 fits-end anything h = refl
@@ -45,7 +45,7 @@ fits-end (many t p) h = fits-end p (subst (Fits p) (sym (last (h .bytes) (h .res
 fits-end (either p q) (inl h) = left-true (mayEnd p) (mayEnd q) (fits-end p h)
 fits-end (either p q) (inr h) = right-true (mayEnd p) (mayEnd q) (fits-end q h)
 
-pub end-fits : (p : Pattern) → mayEnd p ≡ true → Fits p []
+end-fits : (p : Pattern) → mayEnd p ≡ true → Fits p []
 unfolding Fits mayEnd
 end-fits end e = refl
 end-fits anything e = tt
@@ -56,7 +56,7 @@ end-fits (either p q) e = ⊎-elim (λ h. inl (end-fits p h)) (λ h. inr (end-fi
 -- ---- a byte
 
 -- the pattern behind byte c, and what fits it
-abbrev pub Turn : Pattern → ℕ → List ℕ → Type 0
+abbrev Turn : Pattern → ℕ → List ℕ → Type 0
 Turn p c s = (r : Pattern) × (derive p c ≡ some r) × Fits r s
 
 pub derive-one : (t : ℕ → Bool) (p : Pattern) (c : ℕ) → t c ≡ true → derive (one t p) c ≡ some p
@@ -78,7 +78,7 @@ derive-off t p c e = rw (e, derive)
 same-derived : {o : Option Pattern} {p r : Pattern} → o ≡ some p → o ≡ some r → p ≡ r
 same-derived e d = cc
 
-pub fits-turn : (p : Pattern) → OneWay p → (c : ℕ) (s : List ℕ) → Fits p (c ∷ s) → Turn p c s
+fits-turn : (p : Pattern) → OneWay p → (c : ℕ) (s : List ℕ) → Fits p (c ∷ s) → Turn p c s
 unfolding Fits OneWay derive
 fits-turn end d c s h = absurd (full (sym h))
 fits-turn anything d c s h = (anything, refl, tt)
@@ -104,7 +104,7 @@ fits-turn (either p q) d c s (inr h) =
     let w = fits-turn q (d .2) c s h in
     (w .0, ⊎-elim (λ e. otherwise-none (derive q c) e ∙ w .1) (λ e. absurd (silent e (w .1))) (d .0 c), w .2)
 
-pub turn-fits : (p : Pattern) (c : ℕ) (s : List ℕ) {r : Pattern} → derive p c ≡ some r → Fits r s → Fits p (c ∷ s)
+turn-fits : (p : Pattern) (c : ℕ) (s : List ℕ) {r : Pattern} → derive p c ≡ some r → Fits r s → Fits p (c ∷ s)
 unfolding Fits derive
 turn-fits end c s e f = absurd (silent refl e)
 turn-fits anything c s e f = tt
@@ -128,7 +128,7 @@ turn-fits (either p q) c s {r} e f = go (derive p c) refl (λ h. turn-fits p c s
     go (some x) h a b = inl (a (h ∙ sym (otherwise-some (derive q c) h) ∙ e))
 
 -- what is left is definite too
-pub stays-one-way : (p : Pattern) → OneWay p → (c : ℕ) {r : Pattern} → derive p c ≡ some r → OneWay r
+stays-one-way : (p : Pattern) → OneWay p → (c : ℕ) {r : Pattern} → derive p c ≡ some r → OneWay r
 unfolding OneWay derive
 stays-one-way end d c e = absurd (silent refl e)
 stays-one-way anything d c {r} e = subst OneWay (same-derived refl e) tt
@@ -149,7 +149,7 @@ stays-one-way (either p q) d c {r} e = go (derive p c) refl (λ h. stays-one-way
     go (some x) h a b = a (h ∙ sym (otherwise-some (derive q c) h) ∙ e)
 
 -- bytes that fit
-pub fitting : (p : Pattern) → OneWay p → (s : List ℕ) × Fits p s
+fitting : (p : Pattern) → OneWay p → (s : List ℕ) × Fits p s
 unfolding OneWay Fits
 fitting end d = ([], refl)
 fitting anything d = ([], tt)

@@ -59,13 +59,13 @@ off-range a b c (inr h) = rw (lt-leb c b h) (go (leb a c))
     go false = refl
 
 -- a digit's value by the three tests
-abbrev valued : Bool → Bool → Bool → ℕ → ℕ
-valued p q r c = cond p (c - 48) (cond q (c - 87) (cond r (c - 55) 16))
+abbrev byTests : Bool → Bool → Bool → ℕ → ℕ
+byTests p q r c = cond p (c - 48) (cond q (c - 87) (cond r (c - 55) 16))
 
 module _ (c : ℕ) where
-  tested : {p q r : Bool} → among 48 57 c ≡ p → among 97 102 c ≡ q → among 65 70 c ≡ r → valued p q r c ≡ digitValue c
+  tested : {p q r : Bool} → among 48 57 c ≡ p → among 97 102 c ≡ q → among 65 70 c ≡ r → byTests p q r c ≡ digitValue c
   unfolding digitValue digitChar
-  tested a b d = sym (λ i. valued (a i) (b i) (d i) c)
+  tested a b d = sym (λ i. byTests (a i) (b i) (d i) c)
 
   pub digit-decimal : 48 ≤ c → c ≤ 57 → c - 48 ≡ digitValue c
   digit-decimal h k = tested (in-range 48 57 c h k) refl refl

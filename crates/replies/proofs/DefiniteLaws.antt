@@ -15,17 +15,14 @@ use Rattle.smtlib.specs.Tokens.{digitValue}
 use Rattle.wording.specs.Sixteen.{symbolText}
 use Rattle.grammar.specs.Patterns.{Pattern, end, one, either, exact, times}
 use Rattle.grammar.specs.Stops.{derive}
+use Rattle.grammar.proofs.PatternLaws.{derive-off}
 use Rattle.grammar.proofs.Definite.{OneWay, Definite}
-use Rattle.replies.specs.Replies.{blanks, mark, digitTo, anyValue, pair, pairs, listed, claim, replyOf, replyFor}
+use Rattle.replies.specs.Replies.{hexDigits, binaryDigits, blanks, mark, digitTo, anyValue, pair, pairs, listed, claim, replyOf, replyFor}
 use Rattle.replies.proofs.ByteLaws.{blank-low, space}
-
-off-byte : (d c : ℕ) (p : Pattern) → eqb d c ≡ false → derive (one (eqb d) p) c ≡ none
-unfolding derive
-off-byte d c p e = rw (e, derive)
 
 -- no byte above 32 is a blank
 off-blank : (d c : ℕ) (p : Pattern) → 32 < d → whiteSpace c ≡ true → derive (one (eqb d) p) c ≡ none
-off-blank d c p h e = off-byte d c p (ne-eqb d c (λ k. let l = blank-low c e in omega arith))
+off-blank d c p h e = derive-off (eqb d) p c (ne-eqb d c (λ k. let l = blank-low c e in omega arith))
 
 after-blanks : {p : Pattern} → ((c : ℕ) → whiteSpace c ≡ true → derive p c ≡ none) → Definite p → Definite (blanks p)
 unfolding OneWay
@@ -54,8 +51,8 @@ unfolding OneWay
 fork-definite a b {p} {q} n h g = record { one-way = (λ c. go c (eqb a c) refl, byte-definite a h .one-way, byte-definite b g .one-way) }
   where
     go : (c : ℕ) (t : Bool) → eqb a c ≡ t → (derive (one (eqb a) p) c ≡ none) ⊎ (derive (one (eqb b) q) c ≡ none)
-    go c true e = inr (off-byte b c q (ne-eqb b c (λ k. n (eqb-true a c e ∙ sym k))))
-    go c false e = inl (off-byte a c p e)
+    go c true e = inr (derive-off (eqb b) q c (ne-eqb b c (λ k. n (eqb-true a c e ∙ sym k))))
+    go c false e = inl (derive-off (eqb a) p c e)
 
 end-definite : Definite end
 unfolding OneWay
@@ -75,17 +72,17 @@ unfolding digitValue digitChar
 zero-bit = refl
 
 -- a spelling of values: definite, and begins with no blank
-pub record Spelling (value : Pattern → Pattern) : Type 0 where
-  pub definite : {p : Pattern} → Definite p → Definite (value p)
-  pub unblank : (p : Pattern) (c : ℕ) → whiteSpace c ≡ true → derive (value p) c ≡ none
+record Spelling (value : Pattern → Pattern) : Type 0 where
+  definite : {p : Pattern} → Definite p → Definite (value p)
+  unblank : (p : Pattern) (c : ℕ) → whiteSpace c ≡ true → derive (value p) c ≡ none
 
-pub any-spelling : Spelling anyValue
+any-spelling : Spelling anyValue
 any-spelling = record {
-  definite = λ h. byte-definite 35 (fork-definite 120 98 (λ e. omega arith) (times-definite (digitTo 16) 48 zero-digit 4 h) (times-definite (digitTo 2) 48 zero-bit 16 h));
+  definite = λ h. byte-definite 35 (fork-definite 120 98 (λ e. omega arith) (times-definite (digitTo 16) 48 zero-digit hexDigits h) (times-definite (digitTo 2) 48 zero-bit binaryDigits h));
   unblank = λ p c e. off-blank 35 c _ (omega arith) e;
 }
 
-abbrev pub Spellings : List (Pattern → Pattern) → Type 0
+abbrev Spellings : List (Pattern → Pattern) → Type 0
 Spellings [] = Unit {0}
 Spellings (value ∷ values) = Spelling value × Spellings values
 
@@ -115,13 +112,13 @@ word-unblank : (a b : ℕ) (p q : Pattern) → 32 < a → 32 < b → (c : ℕ) �
 unfolding derive
 word-unblank a b p q h g c e = rw (off-blank a c p h e) (off-blank b c q g e)
 
-pub reply-definite : (values : List (Pattern → Pattern)) → Spellings values → Definite (replyOf values)
+reply-definite : (values : List (Pattern → Pattern)) → Spellings values → Definite (replyOf values)
 reply-definite values s =
     after-blanks
     (word-unblank 117 115 _ _ (omega arith) (omega arith))
     (fork-definite 117 115 (λ e. omega arith) (exact-definite (ascii "nsat") claim-definite) (exact-definite (ascii "at") (listed-definite values s)))
 
-pub all-spelled : (v : ℕ) → Spellings (replicate v anyValue)
+all-spelled : (v : ℕ) → Spellings (replicate v anyValue)
 all-spelled zero = tt
 all-spelled (suc v) = (any-spelling, all-spelled v)
 

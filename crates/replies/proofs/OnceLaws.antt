@@ -8,11 +8,9 @@ use lib.ListN.{length}
 use borrow.Author.Tests.{eqb-true}
 use Rattle.smtlib.specs.Tokens.{digitValue}
 use Rattle.grammar.specs.Patterns.{Pattern, anything, one, Fits}
+use Rattle.grammar.proofs.PatternLaws.{full}
 use Rattle.replies.specs.Says.{Numeral, hexadecimal, binary, numberIn, Sixteen, AllSixteen, digits, Spells, SpellsSetting}
 use Rattle.replies.proofs.HashLaws.{behindHash, Hashes, no-more, other, hash, spells-hashes}
-
-empty-full : {c : ℕ} {s : List ℕ} → _≡_ {A = List ℕ} [] (c ∷ s) → ⊥
-empty-full e = let z : _≡_ {A = ℕ} 0 1 = cc in omega arith
 
 digits-same : (ds es : List ℕ) (s : List ℕ) → length ds ≡ length es → Fits (digits ds anything) s → Fits (digits es anything) s → ds ≡ es
 unfolding Fits
@@ -41,12 +39,12 @@ numeral-same (binary ds) (binary es) s a b f g = let w = behind-same 98 98 (digi
 
 hashes-same : {ns ms : List Numeral} {s t : List ℕ} → AllSixteen ns → AllSixteen ms → Hashes ns s → Hashes ms t → s ≡ t → ns ≡ ms
 hashes-same a b no-more no-more e = refl
-hashes-same a b no-more (other c n h) e = absurd (empty-full e)
-hashes-same a b no-more (hash n f h) e = absurd (empty-full e)
-hashes-same a b (other c n h) no-more e = absurd (empty-full (sym e))
+hashes-same a b no-more (other c n h) e = absurd (full e)
+hashes-same a b no-more (hash n f h) e = absurd (full e)
+hashes-same a b (other c n h) no-more e = absurd (full (sym e))
 hashes-same a b (other {ns} {s} c n h) (other {ns = ms} {s = t} d m g) e = hashes-same a b h g (let q : s ≡ t = cc in q)
 hashes-same a b (other c n h) (hash m f g) e = absurd (n (let q : c ≡ 35 = cc in q))
-hashes-same a b (hash n f h) no-more e = absurd (empty-full (sym e))
+hashes-same a b (hash n f h) no-more e = absurd (full (sym e))
 hashes-same a b (hash n f h) (other d m g) e = absurd (m (let q : d ≡ 35 = cc in q))
 hashes-same a b (hash {ns} {s} n f h) (hash {ns = ms} {s = t} m g k) e =
     let q : t ≡ s = cc in

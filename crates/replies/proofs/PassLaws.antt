@@ -26,7 +26,7 @@ use Rattle.replies.specs.Here.{stopFrom, Passes, firstDigit}
 abbrev pub at : ℕ → Here
 at k = record { place = k; off = false }
 
-abbrev pub offAt : ℕ → Here
+abbrev offAt : ℕ → Here
 offAt k = record { place = k; off = true }
 
 -- ---- where a reading stops
@@ -87,7 +87,7 @@ pub record Left (f g : Pattern → Pattern) (s : List ℕ) (h r : Here) : Type 0
 pub left-all : {f : Pattern → Pattern} {s : List ℕ} {h : Here} → Left f f s h h
 left-all = record { left = λ p. refl }
 
-pub left-none : {f g : Pattern → Pattern} {s : List ℕ} {h r : Here} → Left f g s h r → ((p : Pattern) → g p ≡ p) → Passes f s h r
+left-none : {f g : Pattern → Pattern} {s : List ℕ} {h r : Here} → Left f g s h r → ((p : Pattern) → g p ≡ p) → Passes f s h r
 left-none {s = s} {r = r} w e = record { same = λ p. w .left p ∙ ap (λ (q : Pattern). stopFrom q s r) (e p) }
 
 left-turn : {f g e k : Pattern → Pattern} {s : List ℕ} {h r t : Here} → Left f g s h r → ((p : Pattern) → g p ≡ e (k p)) → Passes e s r t → Left f k s h t

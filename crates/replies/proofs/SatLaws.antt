@@ -97,11 +97,11 @@ first-is a p [] r l h f = ap satFirst (f .split) ∙ first-at (f .byte) (f .rest
     go false e = refl
 first-is a p (c ∷ b) r l h f = first-skip c (b ++ r) (h .0) ∙ first-is a p b r l (h .1) f
 
-pub spells-first : (ns : List Numeral) (s : List ℕ) → Spells ns s → satFirst s ≡ true
+spells-first : (ns : List Numeral) (s : List ℕ) → Spells ns s → satFirst s ≡ true
 unfolding Fits
 spells-first ns s f = ap satFirst (f .split) ∙ first-is 115 (exact (ascii "at") (listed (map written ns))) (f .bytes) (f .rest) (omega arith) (f .fits) (f .then)
 
-pub claims-first : (s : List ℕ) → Claims s → satFirst s ≡ false
+claims-first : (s : List ℕ) → Claims s → satFirst s ≡ false
 unfolding Fits
 claims-first s f = ap satFirst (f .split) ∙ first-is 117 (exact (ascii "nsat") claim) (f .bytes) (f .rest) (omega arith) (f .fits) (f .then)
 

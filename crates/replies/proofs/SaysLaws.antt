@@ -14,7 +14,7 @@ use Rattle.smtlib.specs.Tokens.{digitValue}
 use Rattle.wording.specs.Sixteen.{symbolText}
 use Rattle.grammar.specs.Patterns.{Pattern, end, one, many, either, exact, times, All, Fits}
 use Rattle.grammar.proofs.FitLaws.{Covered, cover-one, cover-many, cover-same, cover-exact, cover-left, cover-right, cover-both, Some, Into, into-one, into-many, into-exact, into-by, into-both}
-use Rattle.replies.specs.Replies.{blanks, mark, digitTo, anyValue, pair, pairs, listed, claim, Reply}
+use Rattle.replies.specs.Replies.{hexDigits, binaryDigits, blanks, mark, digitTo, anyValue, pair, pairs, listed, claim, Reply}
 use Rattle.replies.specs.Says.{Numeral, hexadecimal, binary, numberIn, Sixteen, AllSixteen, valued, digits, written, Says, unsat, sat}
 
 -- ---- what a reply spells
@@ -58,12 +58,12 @@ into-value : (p : Pattern) → Into (anyValue p) (λ (x : Right). written (x .0)
 unfolding Fits
 into-value p = record { into = λ s f. go s f (f .then) }
   where
-    go : (s : List ℕ) (f : Fits (anyValue p) s) → Fits (either (exact (ascii "x") (times 4 (digitTo 16) p)) (exact (ascii "b") (times 16 (digitTo 2) p))) (f .rest) → Some (λ (x : Right). written (x .0) p) s
+    go : (s : List ℕ) (f : Fits (anyValue p) s) → Fits (either (exact (ascii "x") (times hexDigits (digitTo 16) p)) (exact (ascii "b") (times binaryDigits (digitTo 2) p))) (f .rest) → Some (λ (x : Right). written (x .0) p) s
     go s f (inl g) =
-        let w = into-exact (ascii "x") (into-times 16 4 p) .into (f .rest) g in
+        let w = into-exact (ascii "x") (into-times 16 hexDigits p) .into (f .rest) g in
         ((hexadecimal (w .0 .0), (w .0 .1, w .0 .2)), record { byte = f .byte; rest = f .rest; split = f .split; fits = f .fits; then = w .1 })
     go s f (inr g) =
-        let w = into-exact (ascii "b") (into-times 2 16 p) .into (f .rest) g in
+        let w = into-exact (ascii "b") (into-times 2 binaryDigits p) .into (f .rest) g in
         ((binary (w .0 .0), (w .0 .1, w .0 .2)), record { byte = f .byte; rest = f .rest; split = f .split; fits = f .fits; then = w .1 })
 
 abbrev Rights : ℕ → Type 0
@@ -96,12 +96,12 @@ cover-written {p} {q} h (hexadecimal ds) r =
     cover-exact (ascii "#")
     (cover-both
     (cover-exact (ascii "x") (subst (λ (k : ℕ). Covered (digits ds p) (times k (digitTo 16) q)) (r .0) (cover-digits 16 h ds (r .1))))
-    (cover-left (exact (ascii "b") (times 16 (digitTo 2) q))))
+    (cover-left (exact (ascii "b") (times binaryDigits (digitTo 2) q))))
 cover-written {p} {q} h (binary ds) r =
     cover-exact (ascii "#")
     (cover-both
     (cover-exact (ascii "b") (subst (λ (k : ℕ). Covered (digits ds p) (times k (digitTo 2) q)) (r .0) (cover-digits 2 h ds (r .1))))
-    (cover-right (exact (ascii "x") (times 4 (digitTo 16) q))))
+    (cover-right (exact (ascii "x") (times hexDigits (digitTo 16) q))))
 
 cover-mark : {p q : Pattern} (d : ℕ) → Covered p q → Covered (mark d p) (mark d q)
 cover-mark d h = cover-many whiteSpace (cover-exact (d ∷ []) h)

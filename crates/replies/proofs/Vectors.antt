@@ -11,10 +11,10 @@ use Rattle.wording.specs.Sixteen.{symbolText}
 use Rattle.grammar.specs.Stops.{stop, derive, mayEnd, stops}
 use Rattle.replies.specs.Replies.{replyFor}
 
-pub record Vector : Type 0 where
-  pub variables : ℕ
-  pub reply : List ℕ
-  pub place : Option ℕ
+record Vector : Type 0 where
+  variables : ℕ
+  reply : List ℕ
+  place : Option ℕ
 
 abbrev given : ℕ → String → Option ℕ → Vector
 given v s o = record { variables = v; reply = ascii s; place = o }

@@ -1,4 +1,4 @@
--- The replies to a script with v variables (document 02, item 1), in the item's order. A comment is none of these bytes.
+-- The replies to a script with v variables (document 02, item 1), in the item's order. No part of a reply is a comment.
 use Prim.Native.Nat.{ℕ, suc}
 use mathlib.Core.Bool.{Bool}
 use mathlib.Core.List.{List, [], _∷_}
@@ -31,12 +31,12 @@ abbrev pub pairs : ℕ → List (Pattern → Pattern) → Pattern → Pattern
 pairs i [] p = p
 pairs i (value ∷ values) p = pair i value (pairs (suc i) values p)
 
--- behind `sat`: where there are variables, the list
+-- behind `sat`: where there are variables, the list; then nothing but blanks
 abbrev pub listed : List (Pattern → Pattern) → Pattern
 listed [] = blanks end
 listed (value ∷ values) = mark 40 (pairs 0 (value ∷ values) (mark 41 (blanks end)))
 
--- a reply whose values are spelled so
+-- a reply whose values are spelled so; blanks may stand before its first word
 abbrev pub replyOf : List (Pattern → Pattern) → Pattern
 replyOf values = blanks (either (exact (ascii "unsat") claim) (exact (ascii "sat") (listed values)))
 

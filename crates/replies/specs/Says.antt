@@ -17,11 +17,12 @@ use Rattle.replies.specs.Replies.{valueBits, hexDigits, binaryDigits, bl
 pub data Numeral : Type 0 where
   hexadecimal binary : List ℕ → Numeral
 
+-- its number
 abbrev pub numberIn : Numeral → ℕ
 numberIn (hexadecimal ds) = numberOf 16 ds
 numberIn (binary ds) = numberOf 2 ds
 
--- of 16 bits
+-- of 16 bits: so many digits, each below the base
 abbrev pub Sixteen : Numeral → Type 0
 Sixteen (hexadecimal ds) = (length ds ≡ hexDigits) × All (λ d. ltb d 16) ds
 Sixteen (binary ds) = (length ds ≡ binaryDigits) × All (λ d. ltb d 2) ds
@@ -30,14 +31,16 @@ abbrev pub AllSixteen : List Numeral → Type 0
 AllSixteen [] = Unit {0}
 AllSixteen (n ∷ ns) = Sixteen n × AllSixteen ns
 
--- digits of these values, letters in either case, and then
+-- a digit of this value, a letter in either case
 abbrev pub valued : ℕ → ℕ → Bool
 valued d c = eqb (digitValue c) d
 
+-- digits of these values, and then
 abbrev pub digits : List ℕ → Pattern → Pattern
 digits [] p = p
 digits (d ∷ ds) p = one (valued d) (digits ds p)
 
+-- the value so written, and then
 abbrev pub written : Numeral → Pattern → Pattern
 written (hexadecimal ds) p = exact (ascii "#x") (digits ds p)
 written (binary ds) p = exact (ascii "#b") (digits ds p)
@@ -46,7 +49,7 @@ written (binary ds) p = exact (ascii "#b") (digits ds p)
 abbrev pub Claims : List ℕ → Type 0
 Claims = Fits (blanks (exact (ascii "unsat") claim))
 
--- the reply spells this case
+-- the reply spells these values
 abbrev pub Spells : List Numeral → List ℕ → Type 0
 Spells ns = Fits (blanks (exact (ascii "sat") (listed (map written ns))))
 

@@ -24,9 +24,9 @@ const UNSAT: [u8; 5] = *b"unsat";
 const SAT: [u8; 3] = *b"sat";
 
 // Where the reading stands: before a place, or off at it, since the byte there fits no reply.
-pub struct Here {
-    pub place: usize,
-    pub off: bool,
+struct Here {
+    place: usize,
+    off: bool,
 }
 
 // The bytes are a reply, or the place of the first that fits none.
