@@ -1,22 +1,15 @@
 -- Replies: exactly those are believed that spell a failing case, and so a setting that satisfies the script; and what a variable's digits say. Assumes nothing.
-use Prim.Native.Nat.{ℕ, _+_, _<_, _≤_}
+use Prim.Native.Nat.{ℕ}
 use mathlib.Core.Path.{_≡_, refl, sym, ap, ap₂, subst, _∙_}
 use mathlib.Core.Bool.{Bool}
-use mathlib.Core.Logic.{_↔_}
 use mathlib.Core.List.{List, [], _∷_, map}
-use native.Mathlib.Omega.{arith}
 use borrow.Author.Tests.{ltb-true}
-use denote.Ref.{RefT}
 use lib.Dec.{lit≤}
 use lib.IntN.{ℤ}
-use lib.ListN.{length}
 use Rattle.lists.proofs.PartLaws.{empty-where}
 use Rattle.numbers.specs.Two.{enc, dec}
 use Rattle.numbers.proofs.Coding.{enc-dec}
-use Rattle.meaning.specs.Rule.{valueIn}
-use Rattle.meaning.specs.Cases.{Failing}
 use Rattle.layout.specs.Parts.{variableCount, ruleIn}
-use Rattle.layout.proofs.PartLaws.{variable-total}
 use Rattle.smtlib.specs.Satisfaction.{Satisfies}
 use Rattle.wording.specs.Form.{sixteen}
 use Rattle.wording.specs.Script.{script}
@@ -24,23 +17,19 @@ use Rattle.forms.proofs.MeansSettings.{decs-encs}
 use Rattle.forms.proofs.MeansMatch.{case-integers}
 use Rattle.replies.specs.Says.{SpellsSetting, SpellsCase}
 use Rattle.replies.proofs.NumberLaws.{Small, setting-small}
-use Rattle.replies.proofs.Spelled.{spells-case}
 use Rattle.trial.specs.declared.Replied.the-variants.{Fails}
 use Rattle.trial.specs.Replies.{Replies}
-use Rattle.trial.specs.Digits.{DigitsGiven}
-use Rattle.trial.proofs.Believed.{accepted-spells, digits-value, digits-inside}
+use Rattle.trial.proofs.GivenLaws.{digits-inside}
+use Rattle.trial.proofs.Believed.{accepted-spells, digits-value, failing-spelled}
 use Rattle.agreement.specs.Statements as promise
 use Rattle.agreement.specs.Statements.{Sheet, settingOf}
 use Rattle.agreement.proofs.Proved.{accepts, held, match}
 
 pub replies-believed : promise.RepliesBelieved
-replies-believed s h reply = accepted-spells s (accepts h) reply
+replies-believed s h reply = accepted-spells s reply (accepts h)
 
 pub cases-spelled : promise.CasesSpelled
-cases-spelled s h c f =
-    let k = case-integers (held h) (f .0) in
-    let w = spells-case c (k .each) in
-    (w .0, subst (λ (v : ℕ). SpellsCase v (w .0) c) (k .all ∙ variable-total s) (w .1))
+cases-spelled s h c f = let w = failing-spelled s (h .bytes) (accepts h) c f in (w .0, w .1)
 
 -- numbers of 16 bits are the two's complement of what they stand for
 encs-decs : (t : List ℕ) → Small t → map (enc 16) (map (dec 16) t) ≡ t
@@ -68,7 +57,4 @@ replies-satisfy models s h reply = (to, from)
         replies-believed s h reply .1 (c, p .1, record { setting = w .0; spelled = w .2; case = back })
 
 pub digits-read : promise.DigitsRead
-digits-read s reply part i p = (
-  λ c g x. rw (p .given g .bytes) (digits-value g x),
-  empty-where (λ g. digits-inside g) p,
-)
+digits-read s reply part i p = (λ c g x. rw (p .given g .bytes) (digits-value s (reply .now) g x), empty-where digits-inside p)

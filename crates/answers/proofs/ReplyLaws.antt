@@ -21,7 +21,7 @@ use Rattle.replies.proofs.Unique.{one-case}
 use Rattle.trial.specs.declared.Replied.{Replied}
 use Rattle.trial.specs.declared.Replied.the-variants.{Unsat, Fails, Refused}
 use Rattle.trial.specs.Replies.{Told, Replies, CaseRoom, RepliesInto}
-use Rattle.trial.proofs.Believed.{sheet-accepted}
+use Rattle.trial.proofs.GivenLaws.{fails-accepted}
 use Rattle.room.specs.Room.{Wrote}
 use Rattle.room.proofs.RoomLaws.{wrote-as}
 use Rattle.phrases.specs.Phrases.{refusalLine}
@@ -53,7 +53,7 @@ module _ (s reply : List ℕ) {before after : List ℤ} {a : Replied} (w : Repli
 
     pub reply-settled : Bytes s → Settled s after
     reply-settled b = record {
-      accepted = sheet-accepted believed;
+      accepted = fails-accepted s reply believed;
       narrow = λ i h. rw (← getD-take (variableCount s) after i (pos 0) h, case-is) (case-narrow s b (told .2 .0) i);
     }
 

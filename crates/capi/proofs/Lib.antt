@@ -1,3 +1,4 @@
 pub mod CodeLaws
 pub mod CaseCodes
 pub mod WrittenCodes
+pub mod ReplyLaws

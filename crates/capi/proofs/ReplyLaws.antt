@@ -1,6 +1,6 @@
 -- The numbers that `reply` and `digits` give in C tell their answers. Assumes nothing.
 use Prim.Native.Nat.{ℕ, _+_, _-_, _*_, _/_, _%_, _^_, _≤_, _<_}
-use mathlib.Core.Path.{_≡_, refl, sym, ap, _∙_}
+use mathlib.Core.Path.{_≡_, refl, sym, ap, ap₂, _∙_}
 use mathlib.Core.List.{List}
 use mathlib.Core.Option.{Option, none, some}
 use native.Mathlib.Decide.{decEq, decLt}
@@ -15,8 +15,8 @@ use Rattle.trial.specs.declared.Replied.{Replied}
 use Rattle.trial.specs.declared.Replied.the-variants.{Unsat, Fails, Refused}
 use Rattle.trial.specs.Replies.{Replies}
 use Rattle.trial.specs.Digits.{DigitsGiven, DigitsPart, DigitsSpan}
-use Rattle.trial.proofs.Exact.{reply-small}
-use Rattle.trial.proofs.Believed.{digits-inside}
+use Rattle.trial.proofs.Exact.{reply-near}
+use Rattle.trial.proofs.GivenLaws.{given-decided, digits-inside, digits-few}
 use Rattle.capi.specs.Codes.{refusalCode, codeSaid, tellable, replyCode, ReplyCodes, DigitsCodes}
 use Rattle.capi.proofs.CodeLaws.{code-tells}
 
@@ -47,7 +47,7 @@ reply-tells {s} {reply} c = ap codeSaid (c .code) ∙ go (c .answer) (c .replies
     go : (a : Replied) → Replies s reply a → codeSaid (replyCode a) ≡ repliedTold a
     go Unsat h = code-tells none 0 (λ r e. absurd (let z : _≡_ {A = ℕ} 0 1 = cc in omega arith)) (λ e. omega arith)
     go Fails h = code-tells none 1 (λ r e. absurd (let z : _≡_ {A = ℕ} 0 1 = cc in omega arith)) (λ e. omega arith)
-    go (Refused q) h = code-tells (some (record { number = q .number; place = tellable (q .place) })) 0 (λ r e. ?) (λ e. omega arith)
+    go (Refused q) h = code-tells (some (record { number = q .number; place = tellable (q .place) })) 0 (λ r e. (let d : q .number ≡ r .number = cc in omega (arith, reply-near h .some-number), let d : tellable (q .place) ≡ r .place = cc in omega (arith, tellable-small (q .place)))) (λ e. absurd (let z : _≡_ {A = ℕ} 0 1 = cc in omega arith))
 
 -- ---- digits
 pub digits-code-once : {s reply : List ℕ} {i r t : ℕ} → DigitsCodes s reply i r → DigitsCodes s reply i t → r ≡ t
@@ -57,3 +57,33 @@ digits-code-once {s} {reply} {i} {r} {t} h g = elim (decEq r t) [
       let f : DigitsGiven s reply i → digitsPlace i reply < 2 ^ 48 → ⊥ = λ d l. n (h .given d l ∙ sym (g .given d l)) in
       absurd (n (h .absent f ∙ sym (g .absent f)))
 ]
+
+module _ {s reply : List ℕ} {i start size : ℕ} (h : DigitsSpan s reply i start size) where
+  pub digits-code : start < 2 ^ 48 → DigitsCodes s reply i (start * 65536 + size)
+  digits-code l = record { given = λ g k. ap₂ (λ (a n : ℕ). a * 65536 + n) (h .given g .0) (h .given g .1); absent = λ f. go f (given-decided s reply i) }
+    where
+      go : (DigitsGiven s reply i → digitsPlace i reply < 2 ^ 48 → ⊥) → Dec (DigitsGiven s reply i) → start * 65536 + size ≡ 0
+      go f (yes g) = let e = h .given g .0 in absurd (f g (omega arith))
+      go f (no n) = let e = h .absent n in omega arith
+
+  pub digits-beyond : 2 ^ 48 ≤ start → DigitsCodes s reply i 0
+  digits-beyond l = record { given = λ g k. let e = h .given g .0 in absurd (omega arith); absent = λ f. refl }
+
+-- the part that `digits` hands back: as long as the code says, and where it says, as far as 48 bits hold its place
+pub digits-tell : {s : List ℕ} {reply part : RefT (List ℕ)} {i r : ℕ} → DigitsPart s reply i part → DigitsCodes s (reply .now) i r → digitsPlace i (reply .now) < 2 ^ 48
+    → (length (part .now) ≡ r % 65536) × (part .ptr .1 ≡ reply .ptr .1 + r / 65536)
+digits-tell {s} {reply} {part} {i} {r} p c l = go (given-decided s (reply .now) i)
+  where
+    go : Dec (DigitsGiven s (reply .now) i) → (length (part .now) ≡ r % 65536) × (part .ptr .1 ≡ reply .ptr .1 + r / 65536)
+    go (yes g) =
+        let d = digits-inside g in
+        let e = c .given g l in
+        let n = part-size (p .given g) (d .1) in
+        let w = p .given g .place in
+        let k = digits-few i (reply .now) in
+        (omega arith, omega arith)
+    go (no f) =
+        let e = c .absent (λ g k. f g) in
+        let n = part-size (p .absent f) (omega arith) in
+        let w = p .absent f .place in
+        (omega arith, omega arith)

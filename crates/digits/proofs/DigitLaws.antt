@@ -1,13 +1,13 @@
 -- In a reply that spells a setting, behind the hash of a variable's number stand its base and its digits, and their number is the variable's. Assumes nothing.
-use Prim.Native.Nat.{ℕ, zero, suc, _+_, _-_, _*_, _^_, _<_, _≤_}
+use Prim.Native.Nat.{ℕ, zero, suc, _+_, _-_, _*_, _<_, _≤_}
 use mathlib.Core.Path.{_≡_, refl, sym, ap, subst, _∙_}
 use mathlib.Core.Bool.{Bool, true, false, cond}
 use mathlib.Core.List.{List, [], _∷_, map}
-use native.Mathlib.Nat.{zero-add, add-suc, suc-add, suc-mul, mul-one, mul-assoc, mul-comm, pow-zero, pow-suc, mul-le-mul, le-refl}
+use native.Mathlib.Nat.{zero-add, add-suc, suc-add, mul-one, mul-le-mul, le-refl}
 use native.Mathlib.Numerals.{add-one}
 use native.Mathlib.Omega.{arith}
 use native.Mathlib.Decide.{decLt}
-use lib.Dec.{eqb, ltb}
+use lib.Dec.{eqb}
 use lib.IntN.{ℤ}
 use lib.ListN.{length, getD, take, drop, length-drop, drop-of-length-le, List·getD-map}
 use lib.Seq.{drop-cons}
@@ -17,9 +17,10 @@ use Rattle.numbers.specs.Two.{dec}
 use Rattle.meaning.specs.Rule.{valueIn}
 use Rattle.smtlib.specs.Tokens.{digitValue}
 use Rattle.smtlib.specs.Terms.{numberFrom, numberOf}
-use Rattle.grammar.specs.Patterns.{Pattern, anything, one, All, Fits}
+use Rattle.grammar.specs.Patterns.{Pattern, anything, one, Fits}
 use Rattle.replies.specs.Replies.{valueBits}
 use Rattle.replies.specs.Says.{Numeral, hexadecimal, binary, numberIn, Sixteen, AllSixteen, digits, Spells, SpellsSetting, SpellsCase}
+use Rattle.replies.proofs.NumberLaws.{Small, setting-small, setting-length}
 use Rattle.replies.proofs.HashLaws.{behindHash, Hashes, no-more, other, hash, spells-hashes}
 use Rattle.digits.specs.Hashes.{placeBehind, sizeAt, baseAt, numberAt}
 use Rattle.digits.specs.Ready.{Few, Based}
@@ -79,28 +80,13 @@ digits-values (d ∷ ds) t f =
     let h = digits-values ds (f .rest) (f .then) in
     ap (λ (l : List ℕ). map digitValue (take (suc (length ds)) l)) (f .split) ∙ (λ i. eqb-true (digitValue (f .byte)) d (f .fits) i ∷ h i)
 
--- ---- how great a number is
+-- ---- further digits make a number no smaller
 
--- by how many digits it has
-number-below : (base n m : ℕ) (ds : List ℕ) → n < m → All (λ d. ltb d base) ds → numberFrom base n ds < m * base ^ length ds
-number-below base n m [] h a = let e : m * base ^ 0 ≡ m = ap (λ (x : ℕ). m * x) (pow-zero base) ∙ mul-one m in rw e h
-number-below base n m (d ∷ ds) h a =
-    let b : suc n * base ≤ m * base = mul-le-mul h (le-refl base) in
-    let c : suc n * base ≡ n * base + base = suc-mul n base in
-    let k : n * base + d < m * base = omega (arith, ltb-true d base (a .0)) in
-    let e : m * base ^ suc (length ds) ≡ m * base * base ^ length ds = ap (λ (x : ℕ). m * x) (pow-suc base (length ds) ∙ mul-comm (base ^ length ds) base) ∙ sym (mul-assoc m base (base ^ length ds)) in
-    rw e (number-below base (n * base + d) (m * base) ds k (a .1))
-
--- and further digits make it no smaller
 pub number-grows : (base n : ℕ) (ds : List ℕ) → 1 ≤ base → n ≤ numberFrom base n ds
 number-grows base n [] h = omega arith
 number-grows base n (d ∷ ds) h =
     let b : n * 1 ≤ n * base = mul-le-mul (le-refl n) h in
     omega (arith, mul-one n, number-grows base (n * base + d) ds h)
-
-numeral-below : (n : Numeral) → Sixteen n → numberIn n < wordLimit
-numeral-below (hexadecimal ds) r = rw (r .0) at (number-below 16 0 1 ds (omega arith) (r .1))
-numeral-below (binary ds) r = rw (r .0) at (number-below 2 0 1 ds (omega arith) (r .1))
 
 -- ---- the number at a base
 
@@ -145,6 +131,12 @@ sixteen-at [] i a l = absurd (omega arith)
 sixteen-at (n ∷ ns) zero a l = a .0
 sixteen-at (n ∷ ns) (suc i) a l = sixteen-at ns i (a .1) (omega arith)
 
+-- each number of a setting has 16 bits
+small-at : (t : List ℕ) (i : ℕ) → Small t → i < length t → getD t i 0 < wordLimit
+small-at [] i h l = absurd (omega arith)
+small-at (n ∷ t) zero h l = ltb-true n wordLimit (h .0)
+small-at (n ∷ t) (suc i) h l = small-at t i (h .1) (omega arith)
+
 -- ---- in a reply that spells a setting
 
 module _ {v : ℕ} {s t : List ℕ} (x : SpellsSetting v s t) (i : ℕ) (l : i < v) where
@@ -168,7 +160,7 @@ module _ {v : ℕ} {s t : List ℕ} (x : SpellsSetting v s t) (i : ℕ) (l : i <
 
   -- of 16 bits, and its digits lie inside the reply
   pub setting-based : Based s (placeBehind i 0 s)
-  setting-based = record { inside = there .inside; behind = there .behind; small = rw (there .number) (numeral-below numeral of-sixteen) }
+  setting-based = record { inside = there .inside; behind = there .behind; small = rw setting-number (small-at t i (setting-small x) (omega (arith, setting-length x))) }
 
 -- a variable's digits, read as a number in two's complement, are its value in the case that is spelled
 pub digits-number : {v : ℕ} {s : List ℕ} {c : List ℤ} → SpellsCase v s c → (i : ℕ) → i < v → dec valueBits (numberAt s (placeBehind i 0 s)) ≡ valueIn c i

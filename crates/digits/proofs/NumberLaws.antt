@@ -12,7 +12,8 @@ use Rattle.numbers.specs.Two.{dec}
 use Rattle.smtlib.specs.Tokens.{digitValue}
 use Rattle.smtlib.specs.Terms.{numberFrom, numberOf}
 use Rattle.replies.specs.Replies.{valueBits}
-use Rattle.replies.specs.Says.{numberIn, SpellsCase}
+use Rattle.replies.specs.Says.{SpellsCase}
+use Rattle.replies.proofs.NumberLaws.{setting-length}
 use Rattle.digits.specs.Hashes.{placeBehind, numberAt}
 use Rattle.digits.specs.Ready.{Few, Based, Spelled, Numbered}
 use Rattle.digits.proofs.HashScan.{Passing, passing-begin, passing-place, passing-turn}
@@ -54,7 +55,7 @@ pub record Filling (v : ℕ) (reply : List ℕ) (old new : List ℤ) (i p : ℕ)
 
 -- a case has a number for each variable
 pub case-long : {v : ℕ} {reply : List ℕ} {c : List ℤ} → SpellsCase v reply c → length c ≡ v
-case-long x = ap length (sym (x .case)) ∙ length-map (x .setting) (dec valueBits) ∙ ap length (sym (x .spelled .numbers)) ∙ length-map (x .spelled .numerals) numberIn ∙ x .spelled .each
+case-long x = ap length (sym (x .case)) ∙ length-map (x .setting) (dec valueBits) ∙ setting-length (x .spelled)
 
 pub filling-begin : {v : ℕ} (reply : List ℕ) {old : List ℤ} → v ≤ length old → Filling v reply old old 0 0
 filling-begin reply h = record { room = h; within = omega arith; long = refl; passing = passing-begin reply; fresh = λ c x. refl; others = refl }
