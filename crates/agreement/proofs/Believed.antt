@@ -6,7 +6,6 @@ use mathlib.Core.List.{List, [], _∷_, map}
 use borrow.Author.Tests.{ltb-true}
 use lib.Dec.{lit≤}
 use lib.IntN.{ℤ}
-use Rattle.lists.proofs.PartLaws.{empty-where}
 use Rattle.numbers.specs.Two.{enc, dec}
 use Rattle.numbers.proofs.Coding.{enc-dec}
 use Rattle.layout.specs.Parts.{variableCount, ruleIn}
@@ -19,8 +18,7 @@ use Rattle.replies.specs.Says.{SpellsSetting, SpellsCase}
 use Rattle.replies.proofs.NumberLaws.{Small, setting-small}
 use Rattle.trial.specs.declared.Replied.the-variants.{Fails}
 use Rattle.trial.specs.Replies.{Replies}
-use Rattle.trial.proofs.GivenLaws.{digits-inside}
-use Rattle.trial.proofs.Believed.{accepted-spells, digits-value, failing-spelled}
+use Rattle.trial.proofs.Believed.{accepted-spells, digits-value, digits-empty, failing-spelled}
 use Rattle.agreement.specs.Statements as promise
 use Rattle.agreement.specs.Statements.{Sheet, settingOf}
 use Rattle.agreement.proofs.Proved.{accepts, held, match}
@@ -57,4 +55,4 @@ replies-satisfy models s h reply = (to, from)
         replies-believed s h reply .1 (c, p .1, record { setting = w .0; spelled = w .2; case = back })
 
 pub digits-read : promise.DigitsRead
-digits-read s reply part i p = (λ c g x. rw (p .given g .bytes) (digits-value s (reply .now) g x), empty-where digits-inside p)
+digits-read s reply part i p = (λ c g x. rw (p .given g .bytes) (digits-value s (reply .now) g x), digits-empty p)

@@ -3,20 +3,21 @@ use Prim.Native.Nat.{ℕ, _+_, _-_, _*_, _/_, _%_, _^_, _≤_, _<_}
 use mathlib.Core.Path.{_≡_, refl, sym, ap, ap₂, _∙_}
 use mathlib.Core.List.{List}
 use mathlib.Core.Option.{Option, none, some}
-use native.Mathlib.Decide.{decEq, decLt}
+use native.Mathlib.Decide.{decLt}
 use native.Mathlib.Omega.{arith}
 use borrow.Author.Tests.{lt-ltb, le-ltb}
 use denote.Ref.{RefT}
 use lib.ListN.{length}
 use Rattle.lists.proofs.PartLaws.{part-size}
 use Rattle.refusals.specs.declared.Refusal.{Refusal}
-use Rattle.digits.specs.Hashes.{digitsPlace, digitsSize}
+use Rattle.replies.specs.Replies.{binaryDigits}
+use Rattle.digits.specs.Hashes.{digitsPlace}
 use Rattle.trial.specs.declared.Replied.{Replied}
 use Rattle.trial.specs.declared.Replied.the-variants.{Unsat, Fails, Refused}
 use Rattle.trial.specs.Replies.{Replies}
 use Rattle.trial.specs.Digits.{DigitsGiven, DigitsPart, DigitsSpan}
 use Rattle.trial.proofs.Exact.{reply-near}
-use Rattle.trial.proofs.GivenLaws.{given-decided, digits-inside, digits-few}
+use Rattle.trial.proofs.GivenLaws.{given-decided, digits-few, given-inside}
 use Rattle.capi.specs.Codes.{refusalCode, codeSaid, tellable, replyCode, ReplyCodes, DigitsCodes}
 use Rattle.capi.proofs.CodeLaws.{code-tells}
 
@@ -35,6 +36,9 @@ module _ {s reply : List ℕ} {a : Replied} (h : Replies s reply a) where
   pub reply-code : {b : Replied} {n : ℕ} → a ≡ b → n ≡ replyCode b → ReplyCodes s reply n
   reply-code d e = record { answer = a; replies = h; code = e ∙ ap replyCode (sym d) }
 
+  pub reply-refused-code : {r : Refusal} {p n : ℕ} → a ≡ Refused r → p ≡ tellable (r .place) → n ≡ refusalCode (record { number = r .number; place = p }) → ReplyCodes s reply n
+  reply-refused-code {r} d e f = reply-code d (f ∙ ap (λ (p : ℕ). refusalCode (record { number = r .number; place = p })) e)
+
 -- the refusal with its place, as far as 48 bits hold it; or 0 and 1
 abbrev pub repliedTold : Replied → Option Refusal × ℕ
 repliedTold Unsat = (none, 0)
@@ -51,12 +55,12 @@ reply-tells {s} {reply} c = ap codeSaid (c .code) ∙ go (c .answer) (c .replies
 
 -- ---- digits
 pub digits-code-once : {s reply : List ℕ} {i r t : ℕ} → DigitsCodes s reply i r → DigitsCodes s reply i t → r ≡ t
-digits-code-once {s} {reply} {i} {r} {t} h g = elim (decEq r t) [
-  | yes e ↦ e
-  | no n ↦
-      let f : DigitsGiven s reply i → digitsPlace i reply < 2 ^ 48 → ⊥ = λ d l. n (h .given d l ∙ sym (g .given d l)) in
-      absurd (n (h .absent f ∙ sym (g .absent f)))
-]
+digits-code-once {s} {reply} {i} {r} {t} h g = go (given-decided s reply i) (decLt (digitsPlace i reply) (2 ^ 48))
+  where
+    go : Dec (DigitsGiven s reply i) → Dec (digitsPlace i reply < 2 ^ 48) → r ≡ t
+    go (yes d) (yes l) = h .given d l ∙ sym (g .given d l)
+    go (yes d) (no n) = h .absent (λ e l. n l) ∙ sym (g .absent (λ e l. n l))
+    go (no n) l = h .absent (λ d k. n d) ∙ sym (g .absent (λ d k. n d))
 
 module _ {s reply : List ℕ} {i start size : ℕ} (h : DigitsSpan s reply i start size) where
   pub digits-code : start < 2 ^ 48 → DigitsCodes s reply i (start * 65536 + size)
@@ -65,6 +69,13 @@ module _ {s reply : List ℕ} {i start size : ℕ} (h : DigitsSpan s reply i sta
       go : (DigitsGiven s reply i → digitsPlace i reply < 2 ^ 48 → ⊥) → Dec (DigitsGiven s reply i) → start * 65536 + size ≡ 0
       go f (yes g) = let e = h .given g .0 in absurd (f g (omega arith))
       go f (no n) = let e = h .absent n in omega arith
+
+  pub digits-size : size ≤ binaryDigits
+  digits-size = go (given-decided s reply i)
+    where
+      go : Dec (DigitsGiven s reply i) → size ≤ binaryDigits
+      go (yes g) = let e = h .given g .1 in omega (arith, digits-few s reply i)
+      go (no n) = let e = h .absent n .1 in omega arith
 
   pub digits-beyond : 2 ^ 48 ≤ start → DigitsCodes s reply i 0
   digits-beyond l = record { given = λ g k. let e = h .given g .0 in absurd (omega arith); absent = λ f. refl }
@@ -76,11 +87,11 @@ digits-tell {s} {reply} {part} {i} {r} p c l = go (given-decided s (reply .now) 
   where
     go : Dec (DigitsGiven s (reply .now) i) → (length (part .now) ≡ r % 65536) × (part .ptr .1 ≡ reply .ptr .1 + r / 65536)
     go (yes g) =
-        let d = digits-inside g in
+        let d = given-inside s (reply .now) i g in
         let e = c .given g l in
         let n = part-size (p .given g) (d .1) in
         let w = p .given g .place in
-        let k = digits-few i (reply .now) in
+        let k = digits-few s (reply .now) i in
         (omega arith, omega arith)
     go (no f) =
         let e = c .absent (λ g k. f g) in

@@ -23,7 +23,7 @@ use Rattle.replies.specs.Says.{Numeral, hexadecimal, binary, numberIn, Sixteen,
 use Rattle.replies.proofs.NumberLaws.{Small, setting-small, setting-length}
 use Rattle.replies.proofs.HashLaws.{behindHash, Hashes, no-more, other, hash, spells-hashes}
 use Rattle.digits.specs.Hashes.{placeBehind, sizeAt, baseAt, numberAt}
-use Rattle.digits.specs.Ready.{Few, Based}
+use Rattle.digits.specs.Ready.{SixteenBits, Based}
 use Rattle.digits.proofs.HashScan.{pass, stop-here, next-hash}
 
 -- ---- behind a hash
@@ -119,7 +119,7 @@ module _ (s : List ℕ) (p : ℕ) {base : ℕ} (e : base ≡ baseAt s p) {part :
   pub part-number : numberOf base (map digitValue part) ≡ numberAt s p
   part-number = rw (e, f)
 
-  pub few-there : Based s p → Few base part
+  pub few-there : Based s p → SixteenBits base part
   few-there h = record { some-base = rw e (go (eqb (getD s p 0) 120)); small = rw part-number (h .small) }
     where
       go : (b : Bool) → 1 ≤ cond b 16 2
@@ -154,7 +154,7 @@ module _ {v : ℕ} {s t : List ℕ} (x : SpellsSetting v s t) (i : ℕ) (l : i <
       digits-at s (placeBehind i 0 s) numeral of-sixteen (behind-hash (x .numerals) s i (hexadecimal []) (x .sixteen) (x .spelled) (omega arith))
 
   -- behind hash number i stands the number of variable i
-  pub setting-number : numberAt s (placeBehind i 0 s) ≡ getD t i 0
+  setting-number : numberAt s (placeBehind i 0 s) ≡ getD t i 0
   unfolding numeral
   setting-number = there .number ∙ sym (List·getD-map numberIn (x .numerals) i (hexadecimal [])) ∙ ap (λ (l : List ℕ). getD l i 0) (x .numbers)
 

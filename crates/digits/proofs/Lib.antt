@@ -1,3 +1,4 @@
 pub mod HashScan
 pub mod DigitLaws
 pub mod NumberLaws
+pub mod Worked

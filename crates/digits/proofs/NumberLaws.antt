@@ -15,7 +15,7 @@ use Rattle.replies.specs.Replies.{valueBits}
 use Rattle.replies.specs.Says.{SpellsCase}
 use Rattle.replies.proofs.NumberLaws.{setting-length}
 use Rattle.digits.specs.Hashes.{placeBehind, numberAt}
-use Rattle.digits.specs.Ready.{Few, Based, Spelled, Numbered}
+use Rattle.digits.specs.Ready.{SixteenBits, Based, CaseSpelled, Numbered}
 use Rattle.digits.proofs.HashScan.{Passing, passing-begin, passing-place, passing-turn}
 use Rattle.digits.proofs.DigitLaws.{number-grows, setting-based, digits-number}
 
@@ -32,7 +32,7 @@ module _ {base : ℕ} {digits : List ℕ} {n k : ℕ} (w : Summing base digits n
   split : k < length digits → numberOf base (map digitValue digits) ≡ numberFrom base (n * base + digitValue (getD digits k 0)) (map digitValue (drop (suc k) digits))
   split h = w .same ∙ ap (λ (l : List ℕ). numberFrom base n (map digitValue l)) (drop-cons digits k 0 h)
 
-  pub summing-fits : Few base digits → k < length digits → n * base + digitValue (getD digits k 0) < wordLimit
+  pub summing-fits : SixteenBits base digits → k < length digits → n * base + digitValue (getD digits k 0) < wordLimit
   summing-fits f h =
       let g = number-grows base (n * base + digitValue (getD digits k 0)) (map digitValue (drop (suc k) digits)) (f .some-base) in
       omega (arith, f .small, split h)
@@ -61,7 +61,7 @@ pub filling-begin : {v : ℕ} (reply : List ℕ) {old : List ℤ} → v ≤ leng
 filling-begin reply h = record { room = h; within = omega arith; long = refl; passing = passing-begin reply; fresh = λ c x. refl; others = refl }
 
 module _ {v : ℕ} {reply : List ℕ} {old new : List ℤ} {i p : ℕ} (w : Filling v reply old new i p) where
-  pub filling-based : Spelled v reply → i < v → {q : ℕ} → q ≡ placeBehind 0 p (drop p reply) → Based reply q
+  pub filling-based : CaseSpelled v reply → i < v → {q : ℕ} → q ≡ placeBehind 0 p (drop p reply) → Based reply q
   filling-based x h e = rw (passing-place (w .passing) e) (setting-based (x .spelled) i h)
 
   pub filling-turn : i < v → {q : ℕ} {z : ℤ} → q ≡ placeBehind 0 p (drop p reply) → z ≡ dec valueBits (numberAt reply q) → Filling v reply old (set new i z) (i + 1) q
@@ -80,7 +80,7 @@ module _ {v : ℕ} {reply : List ℕ} {old new : List ℤ} {i p : ℕ} (w : Fill
           let b : i < length c = omega (arith, case-long x) in
           rw (add-one, take-suc-set new i z a, take-suc c i (pos 0) b, w .fresh c x, k)
 
-  pub filling-end : Spelled v reply → v ≤ i → Numbered v reply old new
+  pub filling-end : CaseSpelled v reply → v ≤ i → Numbered v reply old new
   filling-end x h =
       let e : i ≡ v = omega (arith, w .within) in
       let c : List ℤ = map (dec valueBits) (x .setting) in

@@ -12,7 +12,7 @@ use Rattle.replies.specs.Says.{SpellsSetting, SpellsCase}
 use Rattle.digits.specs.Hashes.{sizeAt, numberAt}
 
 -- digits whose number has 16 bits
-pub record Few (base : ℕ) (digits : List ℕ) : Type 0 where
+pub record SixteenBits (base : ℕ) (digits : List ℕ) : Type 0 where
   pub some-base : 1 ≤ base
   pub small : numberOf base (map digitValue digits) < wordLimit
 
@@ -23,7 +23,7 @@ pub record Based (reply : List ℕ) (p : ℕ) : Type 0 where
   pub small : numberAt reply p < wordLimit
 
 -- the reply spells a setting of v numbers, and a row has room for them
-pub record Spelled (v : ℕ) (reply : List ℕ) : Type 0 where
+pub record CaseSpelled (v : ℕ) (reply : List ℕ) : Type 0 where
   pub few : v ≤ mostVariables
   pub setting : List ℕ
   pub spelled : SpellsSetting v reply setting

@@ -10,7 +10,7 @@ ghost use Rattle.smtlib.specs.Tokens.{digitValue};
 ghost use Rattle.smtlib.specs.Terms.{numberOf};
 ghost use Rattle.replies.specs.Replies.{valueBits};
 ghost use Rattle.digits.specs.Hashes.{placeBehind, sizeAt, baseAt, numberAt, digitsPlace, digitsSize};
-ghost use Rattle.digits.specs.Ready.{Few, Based, Spelled, Numbered};
+ghost use Rattle.digits.specs.Ready.{SixteenBits, Based, CaseSpelled, Numbered};
 use layout::MOST_VARIABLES;
 use replies::BINARY_DIGITS;
 use replies::HEX_DIGITS;
@@ -91,7 +91,7 @@ fn with_digit(n: u16, base: u16, digit: u8) -> u16
 
 // The number of digits to a base.
 fn number(digits: &[u8], base: u16) -> u16
-    requires { ⌜ Few base (now digits) ⌝ }
+    requires { ⌜ SixteenBits base (now digits) ⌝ }
     ensures { λ r. ⌜ r ≡ numberOf base (map digitValue (now (digits .entry))) ⌝ }
 {
     let mut n: u16 = 0;
@@ -114,7 +114,7 @@ fn value_at(reply: &[u8], p: usize) -> i32
 
 // As `numbers`, in a row of any length that has room for the case.
 fn numbers_in(reply: &[u8], count: usize, row: &mut [i32])
-    requires { ⌜ Spelled count (now reply) × (count ≤ length (now row)) ⌝ }
+    requires { ⌜ CaseSpelled count (now reply) × (count ≤ length (now row)) ⌝ }
     ensures { λ _. ⌜ Numbered count (now (reply .entry)) (now (row .entry)) (now (row .exit)) ⌝ }
 {
     let mut p: usize = 0;
@@ -128,7 +128,7 @@ fn numbers_in(reply: &[u8], count: usize, row: &mut [i32])
 
 // Puts the case that the reply spells at the front of the row, in one pass over the reply; the other numbers stay.
 pub fn numbers(reply: &[u8], count: usize, row: &mut [i32; MOST_VARIABLES])
-    requires { ⌜ Spelled count (now reply) ⌝ }
+    requires { ⌜ CaseSpelled count (now reply) ⌝ }
     ensures { λ _. ⌜ Numbered count (now (reply .entry)) (now (row .entry)) (now (row .exit)) ⌝ }
 {
     numbers_in(reply, count, row)

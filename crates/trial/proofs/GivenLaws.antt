@@ -40,6 +40,17 @@ module _ (s reply : List ℕ) where
     pub given-based : DigitsGiven s reply i → Based reply (placeBehind i 0 reply)
     given-based g = setting-based (g .0 .told .1 .spelled) i (g .1)
 
+    -- there is a digit, and the last one lies inside the reply
+    size-by : (b : Bool) → (1 ≤ cond b hexDigits binaryDigits) × (cond b hexDigits binaryDigits ≤ binaryDigits)
+    size-by true = (omega arith, omega arith)
+    size-by false = (omega arith, omega arith)
+
+    pub digits-few : digitsSize i reply ≤ binaryDigits
+    digits-few = size-by (eqb (getD reply (placeBehind i 0 reply) 0) 120) .1
+
+    pub given-inside : DigitsGiven s reply i → (1 ≤ digitsSize i reply) × (digitsPlace i reply + digitsSize i reply ≤ length reply)
+    given-inside g = (size-by (eqb (getD reply (placeBehind i 0 reply) 0) 120) .0, given-based g .behind)
+
     -- ---- the span
     pub given-span : {start size : ℕ} → DigitsGiven s reply i → start ≡ digitsPlace i reply → size ≡ digitsSize i reply → DigitsSpan s reply i start size
     given-span g e f = record { given = λ k. (e, f); absent = λ n. absurd (n g) }
@@ -51,7 +62,7 @@ module _ (s reply : List ℕ) where
     span-inside {start} {size} h = go given-decided
       where
         go : Dec (DigitsGiven s reply i) → start + size ≤ length reply
-        go (yes g) = let w = h .given g in omega (arith, given-based g .behind)
+        go (yes g) = let w = h .given g in omega (arith, given-inside g .1)
         go (no n) = let w = h .absent n in omega arith
 
   -- what is no failing case gives nothing
@@ -65,14 +76,3 @@ module _ (s reply : List ℕ) where
 -- the part by its span
 pub span-part : {s : List ℕ} {i : ℕ} {reply part : RefT (List ℕ)} {start size : ℕ} → DigitsSpan s (reply .now) i start size → PartAt reply part start size → DigitsPart s reply i part
 span-part h p = record { given = λ g. let w = h .given g in rw (w .0, w .1) at p; absent = λ n. let w = h .absent n in rw (w .0, w .1) at p }
-
--- ---- digits that are given: some bytes, a few, inside the reply
-size-by : (b : Bool) → (1 ≤ cond b hexDigits binaryDigits) × (cond b hexDigits binaryDigits ≤ binaryDigits)
-size-by true = (omega arith, omega arith)
-size-by false = (omega arith, omega arith)
-
-pub digits-few : (i : ℕ) (reply : List ℕ) → digitsSize i reply ≤ binaryDigits
-digits-few i reply = size-by (eqb (getD reply (placeBehind i 0 reply) 0) 120) .1
-
-pub digits-inside : {s reply : List ℕ} {i : ℕ} → DigitsGiven s reply i → (1 ≤ digitsSize i reply) × (digitsPlace i reply + digitsSize i reply ≤ length reply)
-digits-inside {s} {reply} {i} g = (size-by (eqb (getD reply (placeBehind i 0 reply) 0) 120) .0, omega (arith, given-based s reply i g .behind))

@@ -37,7 +37,7 @@ pub decides-in : (d : Range) (x : ℤ) → Decides (isIn d x) (In d x)
 unfolding isIn
 decides-in d x = decides-as (decides-and (decides-leZ (d .low) x) (decides-leZ x (d .high))) (λ p. record { low = p .0; high = p .1 }) (λ p. (p .low, p .high))
 
-pub case-fits : {v : ℕ} {s : List ℕ} {c : List ℤ} → SpellsCase v s c → Reply v s
+case-fits : {v : ℕ} {s : List ℕ} {c : List ℤ} → SpellsCase v s c → Reply v s
 case-fits {v} {s} x = says-reply v s (sat (x .setting) (x .spelled))
 
 module _ (s reply : List ℕ) where

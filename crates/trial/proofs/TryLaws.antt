@@ -40,7 +40,7 @@ use Rattle.digits.proofs.DigitLaws.{setting-based, digits-number}
 use Rattle.digits.proofs.NumberLaws.{case-long}
 use Rattle.trial.specs.declared.Replied.the-variants.{Unsat, Fails, Refused as refused}
 use Rattle.trial.specs.Replies.{RepliesInto}
-use Rattle.trial.specs.Trying.{isIn, valuesRefusal, caseRefusal, RowReady, CaseReady}
+use Rattle.trial.specs.Trying.{isIn, valuesRefusal, caseRefusal, NumbersReady, CaseReady}
 use Rattle.trial.proofs.Answers.{values-case, replies-sheet, replies-11, replies-unsat, replies-case, replies-fails}
 
 module _ (s : List ℕ) where
@@ -53,7 +53,7 @@ module _ (s : List ℕ) where
   value-test numbers {i} l ed ex eb = eb ∙ rw (domain-is s i l ed, ex, getD-take (variableCount s) numbers i (pos 0) l)
 
   -- ---- then 13: the values are in their domains, and the row stands as the evaluator asks
-  pub standing : {numbers : List ℤ} → RowReady s numbers → valuesRefusal s (take (variableCount s) numbers) ≡ none → Standing s numbers
+  pub standing : {numbers : List ℤ} → NumbersReady s numbers → valuesRefusal s (take (variableCount s) numbers) ≡ none → Standing s numbers
   standing {numbers} w e = record { accepted = w .accepted; present = values-case s _ (length-take-le (variableCount s) numbers (w .present)) e; zeros = w .zeros }
 
   module _ (c : List ℤ) {a : Reading} (e : saidOf a ≡ valuesRefusal s c) where
@@ -89,15 +89,15 @@ module _ (s reply : List ℕ) (h : Reply (variableCount s) reply) {b : Bool} (e 
   claims-unsat t = unsat-exactly (variableCount s) reply h .0 (sym e ∙ t)
 
 -- ---- the row of a reply's case
-module _ (s : List ℕ) (e : refusalOf s ≡ none) {reply : List ℕ} {v : ℕ} (ev : v ≡ variableCount s) {numbers : List ℤ} (w : Numbered v reply (replicate 16 (pos 0)) numbers) where
+module _ (s : List ℕ) (e : refusalOf s ≡ none) {reply : List ℕ} {v : ℕ} (ev : v ≡ variableCount s) {numbers : List ℤ} (w : Numbered v reply (replicate mostVariables (pos 0)) numbers) where
   pub row-case : SpellsCase (variableCount s) reply (take (variableCount s) numbers)
   row-case = rw ev at (w .case)
 
   enough : v ≤ length numbers
   enough = omega (arith, length-take v numbers, case-long (w .case))
 
-  pub row-ready : RowReady s numbers
-  row-ready = record { accepted = e; present = omega (arith, enough); zeros = λ i l. zeros-kept (zeros-begin v 16) (w .others) .zeros i (omega arith) }
+  pub row-ready : NumbersReady s numbers
+  row-ready = record { accepted = e; present = omega (arith, enough); zeros = λ i l. zeros-kept (zeros-begin v mostVariables) (w .others) .zeros i (omega arith) }
 
   narrow-at : (i : ℕ) → i < v → Narrow (getD numbers i (pos 0))
   narrow-at i l =

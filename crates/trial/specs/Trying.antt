@@ -15,7 +15,7 @@ use Rattle.meaning.specs.Rule.{domainOf, valueIn}
 use Rattle.meaning.specs.Cases.{holds}
 use Rattle.layout.specs.Parts.{variableCount, ruleIn}
 use Rattle.reading.specs.Cascade.{refusalOf}
-use Rattle.digits.specs.Ready.{Spelled}
+use Rattle.digits.specs.Ready.{CaseSpelled}
 
 -- x is in the range
 unfoldable pub isIn : Range → ℤ → Bool
@@ -34,7 +34,7 @@ abbrev pub caseRefusal : List ℕ → List ℤ → Option Refusal
 caseRefusal s c = valuesRefusal s c otherwise unless (not (holds (ruleIn s) c)) 13 0
 
 -- the sheet is accepted, and the row has a number for each variable and 0 behind them
-pub record RowReady (s : List ℕ) (numbers : List ℤ) : Type 0 where
+pub record NumbersReady (s : List ℕ) (numbers : List ℤ) : Type 0 where
   pub accepted : refusalOf s ≡ none
   pub present : variableCount s ≤ length numbers
   pub zeros : (i : ℕ) → variableCount s ≤ i → getD numbers i (pos 0) ≡ pos 0
@@ -42,4 +42,4 @@ pub record RowReady (s : List ℕ) (numbers : List ℤ) : Type 0 where
 -- the sheet is accepted, and the reply spells a setting of its variables
 pub record CaseReady (s reply : List ℕ) : Type 0 where
   pub accepted : refusalOf s ≡ none
-  pub spelled : Spelled (variableCount s) reply
+  pub spelled : CaseSpelled (variableCount s) reply

@@ -10,7 +10,7 @@ ghost use Rattle.reading.specs.Cascade.{refusalOf};
 ghost use Rattle.replies.specs.Replies.{Reply};
 ghost use Rattle.trial.specs.Replies.{Replies, RepliesInto};
 ghost use Rattle.trial.specs.Digits.{DigitsPart, DigitsSpan};
-ghost use Rattle.trial.specs.Trying.{isIn, valuesRefusal, caseRefusal, RowReady, CaseReady};
+ghost use Rattle.trial.specs.Trying.{isIn, valuesRefusal, caseRefusal, NumbersReady, CaseReady};
 use digits::Span;
 use layout::MOST_VARIABLES;
 use numbers::Range;
@@ -54,7 +54,7 @@ fn values_in(sheet: &[u8], case: &[i32; MOST_VARIABLES]) -> Reading
 
 // 12, then 13: the case doesn't fail.
 fn case_fails(sheet: &[u8], case: &[i32; MOST_VARIABLES]) -> Reading
-    requires { ⌜ RowReady (now sheet) (now case) ⌝ }
+    requires { ⌜ NumbersReady (now sheet) (now case) ⌝ }
     ensures { λ r. ⌜ saidOf r ≡ caseRefusal (now (sheet .entry)) (take (variableCount (now (sheet .entry))) (now (case .entry))) ⌝ }
 {
     let values = values_in(sheet, case);
@@ -101,7 +101,7 @@ fn said(sheet: &[u8], reply: &[u8], room: &mut [i16; MOST_VARIABLES]) -> Replied
 }
 
 // 11: the first byte that fits no reply; else what the reply says.
-fn reached(sheet: &[u8], reply: &[u8], room: &mut [i16; MOST_VARIABLES]) -> Replied
+fn read_reply(sheet: &[u8], reply: &[u8], room: &mut [i16; MOST_VARIABLES]) -> Replied
     requires { ⌜ refusalOf (now sheet) ≡ none ⌝ }
     ensures { λ r. ⌜ RepliesInto (now (sheet .entry)) (now (reply .entry)) (now (room .entry)) r (now (room .exit)) ⌝ }
 {
@@ -119,7 +119,7 @@ pub fn reply_into(sheet: &[u8], reply: &[u8], room: &mut [i16; MOST_VARIABLES]) 
     let reading = reading::read(sheet);
     match reading {
         Reading::Refused(r) => Replied::Refused(r),
-        Reading::Accepted => reached(sheet, reply, room),
+        Reading::Accepted => read_reply(sheet, reply, room),
     }
 }
 

@@ -6,8 +6,8 @@ use Rattle.trial.proofs.TryLaws.{into-sheet}
 use Rattle.trial.proofs.reply_into.Statement.{statement}
 use Rattle.trial.proofs.reply_into.Tie as tie
 
-reached-requires : tie.Need-reached-requires
-reached-requires c κs = sym (c .before .before .before .read .ensures) ∙ ap saidOf (c .before .enum-told .given .1)
+read-reply-requires : tie.Need-read-reply-requires
+read-reply-requires c κs = sym (c .before .before .before .read .ensures) ∙ ap saidOf (c .before .enum-told .given .1)
 
 returns : tie.Need-returns
 returns c = into-sheet _ _ _ (c .before .before .before .read .ensures) (c .before .reading .given .1)
@@ -19,6 +19,6 @@ reply-into-spec =
     (λ c κs. search needs)
     (λ c. search needs)
     (λ c. search needs)
-    reached-requires
+    read-reply-requires
     returns
     (λ c. search needs))

@@ -1,8 +1,8 @@
--- `trial::reached` meets its contract: 11 where the reply leaves the grammar, else as it says. Assumes nothing.
+-- `trial::read_reply` meets its contract: 11 where the reply leaves the grammar, else as it says. Assumes nothing.
 use borrow.Author.Needs.{needs}
 use Rattle.trial.proofs.TryLaws.{accepted-inside, reached-whole, reached-off, into-11}
-use Rattle.trial.proofs.reached.Statement.{statement}
-use Rattle.trial.proofs.reached.Tie as tie
+use Rattle.trial.proofs.read_reply.Statement.{statement}
+use Rattle.trial.proofs.read_reply.Tie as tie
 
 said-requires : tie.Need-said-requires
 said-requires c κs =
@@ -16,8 +16,8 @@ returns c =
     let b = r .before .before .before .before in
     into-11 _ _ _ (b .pre) (reached-off (b .args .sheet .now) (b .args .reply .now) (r .before .variable-count .ensures) (r .reach .ensures) (c .before .reach2 .given .1))
 
-pub reached-spec : {M : Type 1} → statement M
-reached-spec =
+pub read-reply-spec : {M : Type 1} → statement M
+read-reply-spec =
     tie.close
     (tie.spec
     (λ c κs. accepted-inside _ (c .before .before .pre) .0)
