@@ -1,10 +1,10 @@
 /* Puts trials to the library: reads them on standard input, calls the archive's functions (by the part
    that it is linked with) and writes the answers. The lent sheet ends where a page without access begins,
-   and so does the lent room, so that a look or a store past it ends the program; some are lent a second
-   time right after such a page, or as a null pointer where the length is 0, and must be answered alike.
-   Answers are written trial by trial, so that the last one written tells where the program ended. A trial is as the oracle has it. With an argument, the
-   driver itself goes past or before what it lends, to show that this is caught. No headers: the kit has
-   none. */
+   and so do the lent reply and the lent room, so that a look or a store past it ends the program; some are
+   lent a second time right after such a page, or as a null pointer where the length is 0, and must be answered
+   alike. Answers are written trial by trial, so that the last one written tells where the program ended. A trial
+   is as the oracle has it. With an argument, the driver itself goes past or before what it lends, to show that
+   this is caught. No headers: the kit has none. */
 #include "driver.h"
 
 extern long read(int, void *, size);
@@ -12,17 +12,21 @@ extern long write(int, const void *, size);
 extern void *mmap(void *, size, int, int, int, long);
 extern int mprotect(void *, size, int);
 
-enum { PAGE = 4096, MOST_BYTES = 64 << 20, MOST_ROOM = 1 << 20, MOST_ANSWERS = 1 << 20, MOST_QUESTIONS = 1024 };
+enum { PAGE = 4096, MOST_BYTES = 64 << 20, MOST_REPLY = 16 << 20, MOST_ROOM = 1 << 20, MOST_ANSWERS = 1 << 20, MOST_QUESTIONS = 1024 };
 enum { QUESTION = 9, LENT_TWICE = 4, BESIDE = 64 };
 enum { /* exit statuses */
-    CUT_SHORT = 2, TOO_MUCH = 3, NO_MEMORY = 4, NOT_WRITTEN = 5, SHEET_CHANGED = 6, NO_SUCH_SUBJECT = 7,
+    CUT_SHORT = 2, TOO_MUCH = 3, NO_MEMORY = 4, NOT_WRITTEN = 5, LENT_CHANGED = 6, NO_SUCH_SUBJECT = 7,
     NOT_ALIKE = 8, CHANGED_BESIDE_ROOM = 9
 };
 
 enum side { END, START }; /* which side of an area is lent */
 
-static byte *sheets, *rooms; /* areas between two pages without access */
-static byte kept[MOST_BYTES]; /* what was lent, to be compared afterwards */
+struct trial {
+    size sheet_length, reply_length, questions;
+};
+
+static byte *sheets, *replies, *rooms; /* areas between two pages without access */
+static byte kept[MOST_BYTES], kept_reply[MOST_REPLY]; /* what was lent, to be compared afterwards */
 static byte questions[QUESTION * MOST_QUESTIONS];
 static byte answers[MOST_ANSWERS], again[MOST_ANSWERS];
 
@@ -71,7 +75,7 @@ static byte *area_of(size bytes) {
 }
 
 /* The bytes of a subject's room for each number of its length; 0 where it has none. */
-static size room_unit(byte subject) { return subject == CHECK ? 2 : subject == SCRIPT ? 1 : 0; }
+static size room_unit(byte subject) { return subject == CHECK ? 2 : subject == SCRIPT || subject == ASK ? 1 : 0; }
 
 static byte filling(unsigned pattern, unsigned place) { return pattern * (2 * place + 1) >> 24; }
 
@@ -93,13 +97,14 @@ static int kept_beside(byte *room, size bytes, enum side side, unsigned pattern)
 static byte *null_or(byte *place, size bytes, enum side side) { return bytes == 0 && side == START ? 0 : place; }
 
 /* Writes the answer to one question, and the room after it; gives a status and adds what was written. */
-static int answer_one(const byte *question, const byte *sheet, size length, enum side side, byte *to, size *at) {
+static int answer_one(const byte *question, struct lent lent, enum side side, byte *to, size *at) {
     unsigned long asked = number(question + 1, 8), said;
     unsigned pattern = asked >> 32;
     size room_length = asked & 0xffffffff, bytes = room_length * room_unit(question[0]);
     if (bytes + BESIDE > MOST_ROOM || *at + 8 + bytes > MOST_ANSWERS) return TOO_MUCH;
     byte *room = side == END ? rooms + MOST_ROOM - bytes : rooms;
-    struct lent lent = {sheet, length, null_or(room, bytes, side), room_length};
+    lent.room = null_or(room, bytes, side);
+    lent.room_length = room_length;
     fill(room, bytes, side, pattern);
     if (!answer(question[0], asked, lent, &said)) return NO_SUCH_SUBJECT;
     if (!kept_beside(room, bytes, side, pattern)) return CHANGED_BESIDE_ROOM;
@@ -109,50 +114,69 @@ static int answer_one(const byte *question, const byte *sheet, size length, enum
     return 0;
 }
 
-/* Lends the kept bytes on this side and writes the answers to all questions. */
-static int answer_all(enum side side, size length, size count, byte *to, size *written) {
-    byte *sheet = side == END ? sheets + MOST_BYTES - length : null_or(sheets, length, side);
-    copy(sheet, kept, length);
-    *written = 0;
-    for (size q = 0; q < count; q++) {
-        int status = answer_one(questions + QUESTION * q, sheet, length, side, to, written);
-        if (status) return status;
-    }
-    return same(sheet, kept, length) ? 0 : SHEET_CHANGED;
+/* Puts bytes to this side of an area. */
+static byte *lend(byte *area, size most, const byte *bytes, size length, enum side side) {
+    byte *place = side == END ? area + most - length : null_or(area, length, side);
+    copy(place, bytes, length);
+    return place;
 }
 
-static int answer_trial(size length, size count, size trial) {
+/* Lends the kept bytes on this side and writes the answers to all questions. */
+static int answer_all(enum side side, const struct trial *trial, byte *to, size *written) {
+    byte *sheet = lend(sheets, MOST_BYTES, kept, trial->sheet_length, side);
+    byte *reply = lend(replies, MOST_REPLY, kept_reply, trial->reply_length, side);
+    struct lent lent = {sheet, trial->sheet_length, reply, trial->reply_length, 0, 0};
+    *written = 0;
+    for (size q = 0; q < trial->questions; q++) {
+        int status = answer_one(questions + QUESTION * q, lent, side, to, written);
+        if (status) return status;
+    }
+    return same(sheet, kept, trial->sheet_length) && same(reply, kept_reply, trial->reply_length) ? 0 : LENT_CHANGED;
+}
+
+static int answer_trial(const struct trial *trial, size number) {
     size written, again_written;
-    int status = answer_all(END, length, count, answers, &written);
-    if (!status && trial % LENT_TWICE == 0) {
-        status = answer_all(START, length, count, again, &again_written);
+    int status = answer_all(END, trial, answers, &written);
+    if (!status && number % LENT_TWICE == 0) {
+        status = answer_all(START, trial, again, &again_written);
         if (!status && !(written == again_written && same(answers, again, written))) status = NOT_ALIKE;
     }
     return status ? status : give(answers, written) ? 0 : NOT_WRITTEN;
 }
 
-/* Goes where 'past-sheet', 'before-sheet', 'past-room' or 'before-room' says. */
+/* Goes where 'past-sheet', 'before-sheet', 'past-reply', 'before-reply', 'past-room' or 'before-room' says. */
 static int elsewhere(const char *where) {
-    int past = where[0] == 'p', sheet = where[past ? 5 : 7] == 's';
-    if (sheet) return *(volatile byte *)(past ? sheets + MOST_BYTES : sheets - 1);
+    int past = where[0] == 'p';
+    const char *what = where + (past ? 5 : 7);
+    if (what[0] == 's') return *(volatile byte *)(past ? sheets + MOST_BYTES : sheets - 1);
+    if (what[1] == 'e') return *(volatile byte *)(past ? replies + MOST_REPLY : replies - 1);
     *(volatile byte *)(past ? rooms + MOST_ROOM : rooms - 1) = 1;
     return 0;
 }
 
+/* Takes a trial's sheet, reply and questions. */
+static int take_trial(const struct trial *trial) {
+    if (trial->sheet_length > MOST_BYTES || trial->reply_length > MOST_REPLY || trial->questions > MOST_QUESTIONS)
+        return TOO_MUCH;
+    if (take(kept, trial->sheet_length) < trial->sheet_length) return CUT_SHORT;
+    if (take(kept_reply, trial->reply_length) < trial->reply_length) return CUT_SHORT;
+    return take(questions, QUESTION * trial->questions) < QUESTION * trial->questions ? CUT_SHORT : 0;
+}
+
 int main(int words, char **word) {
-    byte head[8];
+    byte head[12];
     sheets = area_of(MOST_BYTES);
+    replies = area_of(MOST_REPLY);
     rooms = area_of(MOST_ROOM);
-    if (!sheets || !rooms) return NO_MEMORY;
+    if (!sheets || !replies || !rooms) return NO_MEMORY;
     if (words > 1) return elsewhere(word[1]);
-    for (size trial = 0;; trial++) {
-        size came = take(head, 8), length = number(head, 4), count = number(head + 4, 4);
+    for (size trials = 0;; trials++) {
+        size came = take(head, 12);
         if (came == 0) return 0;
-        if (came < 8) return CUT_SHORT;
-        if (length > MOST_BYTES || count > MOST_QUESTIONS) return TOO_MUCH;
-        if (take(kept, length) < length) return CUT_SHORT;
-        if (take(questions, QUESTION * count) < QUESTION * count) return CUT_SHORT;
-        int status = answer_trial(length, count, trial);
+        if (came < 12) return CUT_SHORT;
+        struct trial trial = {number(head, 4), number(head + 4, 4), number(head + 8, 4)};
+        int status = take_trial(&trial);
+        if (!status) status = answer_trial(&trial, trials);
         if (status) return status;
     }
 }

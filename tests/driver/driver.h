@@ -2,11 +2,15 @@
 typedef unsigned long size;
 typedef unsigned char byte;
 
-enum { READ = 1, NAME = 2, BLOCK = 3, CHECK = 4, TALLY = 5, SCRIPT = 6 }; /* a question's subject */
+enum { /* a question's subject */
+    READ = 1, NAME = 2, BLOCK = 3, CHECK = 4, TALLY = 5, SCRIPT = 6, ASK = 7, REPLY = 8, DIGITS = 9
+};
 
 struct lent {
     const byte *sheet;
     size sheet_length; /* in bytes */
+    const byte *reply;
+    size reply_length; /* in bytes; 0 where it isn't asked about */
     void *room;
     size room_length; /* in numbers or bytes, as the call has it */
 };

@@ -21,9 +21,10 @@ const EDITED: usize = 5;
 
 type Exam = Result<(), String>;
 
-/// A sheet's rule, its cases and its script.
+/// A sheet, its rule, its cases and its script.
 pub struct Subject {
-    file: String,
+    pub file: String,
+    pub sheet: Vec<u8>,
     pub rule: Rule,
     script: String,
     outcome: Outcome,
@@ -58,7 +59,7 @@ pub fn subjects(oracle: &str, sheets: &[Vec<u8>], folder: &str) -> Result<Vec<Su
             ));
         }
         let script = fs::read_to_string(&file).map_err(|error| format!("{}: {}", file, error))?;
-        subjects.push(Subject { file, rule, script, outcome });
+        subjects.push(Subject { file, sheet: sheet.clone(), rule, script, outcome });
     }
     Ok(subjects)
 }

@@ -4,8 +4,10 @@
 //   maker sheet RULE SHEET               makes the sheet of a rule's text (see text.rs)
 //   maker answers ORACLE RULE..          the answers that the sheets must get, a line for each call; fails
 //                                        where the oracle, asked about the sheets, says another thing
-//   maker trials SHEET..                 trials that ask for the script of each sheet
+//   maker trials script|ask SHEET..      trials that ask for the script of each sheet, in one form or the other
 //   maker solvers ORACLE TRIALS FOLDER   puts the scripts in FOLDER to z3 and cvc5 (see exams.rs)
+//   maker replies ORACLE TRIALS FOLDER REPLIES NOTES   has them reply to the scripts in FOLDER, which ask for values,
+//                                        and writes their replies as trials (see replies.rs)
 
 mod answers;
 mod cases;
@@ -17,6 +19,7 @@ mod layout;
 mod limits;
 mod oracle;
 mod ranges;
+mod replies;
 mod rule;
 mod script;
 mod sheet;
@@ -24,6 +27,7 @@ mod text;
 mod trials;
 
 use exams::{Counts, Examiner, SOLVERS};
+use replies::COMMANDS;
 use std::fs;
 use std::io::{self, Write};
 use std::path::Path;
@@ -33,13 +37,19 @@ use text::Written;
 fn main() {
     let words: Vec<String> = std::env::args().skip(1).collect();
     let words: Vec<&str> = words.iter().map(String::as_str).collect();
-    let done = match words[..] {
-        ["sheet", rule, sheet] => made(rule).and_then(|(_, bytes)| write(sheet, &bytes)),
-        ["answers", oracle, ref rules @ ..] => tell_answers(oracle, rules),
-        ["trials", ref sheets @ ..] => tell_trials(sheets),
-        ["solvers", oracle, trials, folder] => judge(oracle, trials, folder),
-        _ => Err("usage: maker sheet | answers | trials | solvers; see the top of main.rs".to_string()),
-    };
+    let done =
+        match words[..] {
+            ["sheet", rule, sheet] => made(rule).and_then(|(_, bytes)| write(sheet, &bytes)),
+            ["answers", oracle, ref rules @ ..] => tell_answers(oracle, rules),
+            ["trials", "script", ref sheets @ ..] => tell_trials(trials::SCRIPT, sheets),
+            ["trials", "ask", ref sheets @ ..] => tell_trials(trials::ASK, sheets),
+            ["solvers", oracle, trials, folder] => judge(oracle, trials, folder),
+            ["replies", oracle, trials, folder, replies, notes] => {
+                reply(oracle, trials, folder, [replies, notes])
+            }
+            _ => Err("usage: maker sheet | answers | trials | solvers | replies; see the top of main.rs"
+                .to_string()),
+        };
     if let Err(why) = done {
         eprintln!("{}", why);
         exit(1);
@@ -82,27 +92,46 @@ fn tell_answers(oracle: &str, rules: &[&str]) -> Result<(), String> {
     Ok(())
 }
 
-fn tell_trials(sheets: &[&str]) -> Result<(), String> {
+fn tell_trials(asked: trials::Asked, sheets: &[&str]) -> Result<(), String> {
     for file in sheets {
-        let trial = trials::trial(&read(file)?, &[trials::SCRIPT]);
+        let trial = trials::trial(&read(file)?, &[asked]);
         io::stdout().write_all(&trial).map_err(|error| error.to_string())?;
     }
     Ok(())
 }
 
-/// Each solver goes through all scripts, both at once.
+/// What is done with each of both, at once.
+fn with_both<T: Copy + Send, R: Send>(
+    of: [T; 2],
+    work: impl Fn(T) -> Result<R, String> + Sync,
+) -> Result<[R; 2], String> {
+    let work = &work;
+    let [first, second] = std::thread::scope(|scope| {
+        let threads = of.map(|one| scope.spawn(move || work(one)));
+        threads.map(|thread| thread.join().expect("no solver's thread panics"))
+    });
+    Ok([first?, second?])
+}
+
+/// Each solver goes through all scripts.
 fn judge(oracle: &str, trials: &str, folder: &str) -> Result<(), String> {
     let subjects = exams::subjects(oracle, &trials::sheets(&read(trials)?), folder)?;
-    let examine = |solver| Examiner::new(solver, folder).examine_all(&subjects);
-    let [first, second] = std::thread::scope(|scope| {
-        let threads = SOLVERS.map(|solver| scope.spawn(move || examine(solver)));
-        threads.map(|thread| thread.join().expect("no examiner panics"))
-    });
-    let (first, second) = (first?, second?);
+    let [first, second] = with_both(SOLVERS, |solver| Examiner::new(solver, folder).examine_all(&subjects))?;
     if first != second {
         return Err("the solvers were not asked about the same scripts".to_string());
     }
     let Counts { sat, unsat, few } = first;
     println!("{} {} {}", sat, unsat, few);
+    Ok(())
+}
+
+/// Each solver replies to all scripts.
+fn reply(oracle: &str, trials: &str, folder: &str, [replies, notes]: [&str; 2]) -> Result<(), String> {
+    let subjects = exams::subjects(oracle, &trials::sheets(&read(trials)?), folder)?;
+    let [first, second] = with_both(COMMANDS, |command| replies::of(command, &subjects))?;
+    let all = first.and(second);
+    write(replies, &all.trials)?;
+    write(notes, all.notes.as_bytes())?;
+    println!("{} {}", all.sat, all.unsat);
     Ok(())
 }

@@ -1,4 +1,4 @@
-// Trials, as oracle/main.rs has them: a sheet and questions about it.
+// Trials, as oracle/main.rs has them: a sheet, a reply and questions about them.
 
 use crate::limits::{ENOUGH_ROOM, MOST_VARIABLES};
 
@@ -10,11 +10,22 @@ pub const CHECK: Asked = (4, MOST_VARIABLES as u64);
 pub const TALLY: Asked = (5, 0);
 /// With room that is enough for every script.
 pub const SCRIPT: Asked = (6, ENOUGH_ROOM as u64);
+pub const ASK: Asked = (7, ENOUGH_ROOM as u64);
+pub const REPLY: Asked = (8, 0);
+
+pub fn digits(variable: u64) -> Asked {
+    (9, variable)
+}
 
 pub fn trial(sheet: &[u8], questions: &[Asked]) -> Vec<u8> {
-    let mut trial = (sheet.len() as u32).to_le_bytes().to_vec();
-    trial.extend((questions.len() as u32).to_le_bytes());
+    with_reply(sheet, &[], questions)
+}
+
+pub fn with_reply(sheet: &[u8], reply: &[u8], questions: &[Asked]) -> Vec<u8> {
+    let counts = [sheet.len(), reply.len(), questions.len()];
+    let mut trial: Vec<u8> = counts.iter().flat_map(|&count| (count as u32).to_le_bytes()).collect();
     trial.extend(sheet);
+    trial.extend(reply);
     for (subject, number) in questions {
         trial.push(*subject);
         trial.extend(number.to_le_bytes());
@@ -30,9 +41,9 @@ pub fn sheets(mut trials: &[u8]) -> Vec<Vec<u8>> {
             let bytes = trials[place..place + 4].try_into().expect("four bytes");
             u32::from_le_bytes(bytes) as usize
         };
-        let (length, questions) = (number(0), number(4));
-        sheets.push(trials[8..8 + length].to_vec());
-        trials = &trials[8 + length + 9 * questions..];
+        let (length, reply, questions) = (number(0), number(4), number(8));
+        sheets.push(trials[12..12 + length].to_vec());
+        trials = &trials[12 + length + reply + 9 * questions..];
     }
     sheets
 }

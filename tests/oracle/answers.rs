@@ -1,9 +1,10 @@
-// The answers to the questions about one sheet, as the C interface gives them.
+// The answers to the questions about one sheet and one reply, as the C interface gives them.
 
 use crate::blocks;
 use crate::cases;
 use crate::limits::MOST_BYTES;
 use crate::reading::{self, refuse, Refusal, Rule};
+use crate::replies::{self, Reply};
 use crate::script;
 
 /// A lent room: how many bytes it has, and what it is filled with beforehand.
@@ -27,20 +28,32 @@ impl Room {
     }
 }
 
-/// A sheet with what has been found out about it.
+/// A sheet and a reply with what has been found out about them.
 pub struct Asked {
     sheet: Vec<u8>,
+    reply: Vec<u8>,
     reading: Result<Rule, Refusal>,
-    /// Worked out when first asked for, as the tally and the script.
+    /// Worked out when first asked for, as are the others.
     first_failure: Option<Option<Vec<i64>>>,
     tally: Option<(u64, u64)>,
     script: Option<String>,
+    asking: Option<String>,
+    replied: Option<Result<Reply, Refusal>>,
 }
 
 impl Asked {
-    pub fn about(sheet: Vec<u8>) -> Asked {
+    pub fn about(sheet: Vec<u8>, reply: Vec<u8>) -> Asked {
         let reading = reading::read(&sheet);
-        Asked { sheet, reading, first_failure: None, tally: None, script: None }
+        Asked {
+            sheet,
+            reply,
+            reading,
+            first_failure: None,
+            tally: None,
+            script: None,
+            asking: None,
+            replied: None,
+        }
     }
 
     /// The answer's number, then the bytes of the room after it, if the question lends one.
@@ -60,6 +73,13 @@ impl Asked {
                 let said = code(self.write_script(&mut room));
                 with_room(said, room)
             }
+            7 => {
+                let mut room = Room::lent(number, 1);
+                let said = code(self.write_asking(&mut room));
+                with_room(said, room)
+            }
+            8 => alone(code(self.reply())),
+            9 => alone(self.digits(number)),
             _ => panic!("no question has subject {}", subject),
         }
     }
@@ -103,20 +123,71 @@ impl Asked {
     /// The bytes written.
     fn write_script(&mut self, room: &mut Room) -> Result<u64, Refusal> {
         let rule = self.reading.as_ref().map_err(|&refusal| refusal)?;
-        let script = self.script.get_or_insert_with(|| script::script(rule));
-        if room.length < script.len() {
-            return refuse(9, script.len());
-        }
-        room.put(script.as_bytes());
-        Ok(script.len() as u64)
+        write(self.script.get_or_insert_with(|| script::script(rule)), room)
     }
+
+    fn write_asking(&mut self, room: &mut Room) -> Result<u64, Refusal> {
+        let rule = self.reading.as_ref().map_err(|&refusal| refusal)?;
+        write(self.asking.get_or_insert_with(|| script::asking(rule)), room)
+    }
+
+    fn replied(&mut self) -> Result<&Reply, Refusal> {
+        let rule = self.reading.as_ref().map_err(|&refusal| refusal)?;
+        let replied = self.replied.get_or_insert_with(|| replies::judged(rule, &self.reply));
+        replied.as_ref().map_err(|&refusal| refusal)
+    }
+
+    /// 0 unsat is claimed, 1 the case fails.
+    fn reply(&mut self) -> Result<u64, Refusal> {
+        self.replied().map(|reply| match reply {
+            Reply::Unsat => 0,
+            Reply::Sat(_) => 1,
+        })
+    }
+
+    fn digits(&mut self, variable: u64) -> u64 {
+        match self.replied() {
+            Ok(Reply::Sat(digits)) => digits
+                .get(variable as usize)
+                .map_or(0, |digits| digits.from as u64 * 65_536 + digits.count as u64),
+            _ => 0,
+        }
+    }
+}
+
+/// Gives the bytes written.
+fn write(script: &str, room: &mut Room) -> Result<u64, Refusal> {
+    if room.length < script.len() {
+        return refuse(9, script.len());
+    }
+    room.put(script.as_bytes());
+    Ok(script.len() as u64)
 }
 
 /// What the program writes about an input when asked with this word.
 pub fn said(word: &str, input: &[u8]) -> String {
-    let sheet = &input[..input.len().min(MOST_BYTES + 1)];
-    answer_to(word, sheet)
-        .unwrap_or_else(|Refusal { number, place }| format!("refused {} at {}\n", number, place))
+    or_refused(answer_to(word, as_far_as_read(input)))
+}
+
+/// What the program writes about a sheet and a reply to it.
+pub fn said_of_reply(input: &[u8], reply: &[u8]) -> String {
+    or_refused(answer_to_reply(as_far_as_read(input), reply))
+}
+
+fn as_far_as_read(input: &[u8]) -> &[u8] {
+    &input[..input.len().min(MOST_BYTES + 1)]
+}
+
+fn or_refused(answer: Result<String, Refusal>) -> String {
+    answer.unwrap_or_else(|Refusal { number, place }| format!("refused {} at {}\n", number, place))
+}
+
+fn answer_to_reply(sheet: &[u8], reply: &[u8]) -> Result<String, Refusal> {
+    let rule = reading::read(sheet)?;
+    Ok(match replies::judged(&rule, reply)? {
+        Reply::Unsat => "unsat claimed\n".to_string(),
+        Reply::Sat(digits) => failing(&rule, &replies::case(reply, &digits)),
+    })
 }
 
 fn answer_to(word: &str, sheet: &[u8]) -> Result<String, Refusal> {
@@ -124,6 +195,7 @@ fn answer_to(word: &str, sheet: &[u8]) -> Result<String, Refusal> {
     match word {
         "read" => Ok("accepted\n".to_string()),
         "script" => Ok(script::script(&rule)),
+        "ask" => Ok(script::asking(&rule)),
         "check" => Ok(checked(&rule, cases::first_failure(&rule, cases::count(&rule)?))),
         "tally" => {
             let (held, failed) = cases::tally(&rule, cases::count(&rule)?);
@@ -136,12 +208,14 @@ fn answer_to(word: &str, sheet: &[u8]) -> Result<String, Refusal> {
 fn checked(rule: &Rule, failure: Option<Vec<i64>>) -> String {
     match failure {
         None => "holds\n".to_string(),
-        Some(case) => {
-            let settings = rule.variables.iter().zip(case);
-            let settings: String = settings.map(|(of, value)| format!(" {}={}", of.name, value)).collect();
-            format!("fails{}\n", settings)
-        }
+        Some(case) => failing(rule, &case),
     }
+}
+
+fn failing(rule: &Rule, case: &[i64]) -> String {
+    let settings = rule.variables.iter().zip(case);
+    let settings: String = settings.map(|(of, value)| format!(" {}={}", of.name, value)).collect();
+    format!("fails{}\n", settings)
 }
 
 /// High 16 bits the refusal's number, low 48 bits its place or the answer.

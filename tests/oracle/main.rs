@@ -1,13 +1,16 @@
-// The oracle: reads trials on standard input and writes the answers that document 01 demands.
-// Written from document 01 alone; with the library and the tests' sheets it shares no code, only the limits' names.
+// The oracle: reads trials on standard input and writes the answers that documents 01 and 02 (item 1) demand.
+// Written from these alone; with the library and the tests' sheets it shares no code, only the limits' names.
 //
 //   oracle             answers the questions of each trial
 //   oracle program     writes what the program writes, with the same standard input
-//   oracle words WORD FILE..       writes what the program writes when called with these
+//   oracle words WORD FILE..       writes what the program writes when called with these; after 'reply' they are
+//                                  one sheet and one reply
 //   oracle sheets EVERY FOLDER     writes the sheet of every EVERYth trial to a file of its own
+//   oracle pairs EVERY FOLDER      the same, and behind .reply the reply
 //
-// A trial is: sheet length (u32), number of questions (u32), the sheet, then for each question its
-// subject (one byte: 1 read, 2 name, 3 block, 4 check, 5 tally, 6 script) and a number (u64). An answer is a u64 and,
+// A trial is: sheet length, reply length, number of questions (u32 each), the sheet, the reply, then for each question
+// its subject (one byte: 1 read, 2 name, 3 block, 4 check, 5 tally, 6 script, 7 ask, 8 reply, 9 digits) and a number
+// (u64). Where the reply isn't asked about, it has no bytes. An answer is a u64 and,
 // where the question lends a room, the whole room afterwards. All little-endian. For a room, the number's
 // low 32 bits are its length and the high 32 a pattern: byte i of the room is first the highest byte of
 // pattern * (2 i + 1), taken modulo 2^32.
@@ -18,6 +21,7 @@ mod cases;
 #[path = "../limits.rs"]
 mod limits;
 mod reading;
+mod replies;
 mod script;
 mod trees;
 mod variables;
@@ -41,8 +45,12 @@ fn main() -> io::Result<()> {
             input.read_to_end(&mut bytes)?;
             output.write_all(answers::said("script", &bytes).as_bytes())?;
         }
+        ["words", "reply", sheet, reply] => {
+            output.write_all(answers::said_of_reply(&fs::read(sheet)?, &fs::read(reply)?).as_bytes())?
+        }
         ["words", word, ..] => answer_words(word, &words[2..], &mut output)?,
-        ["sheets", every, folder] => write_sheets(&mut input, every.parse().unwrap(), folder)?,
+        ["sheets", every, folder] => write_sheets(&mut input, every.parse().unwrap(), folder, false)?,
+        ["pairs", every, folder] => write_sheets(&mut input, every.parse().unwrap(), folder, true)?,
         _ => panic!("{:?} is nothing that the oracle knows", words),
     }
     output.flush()
@@ -59,11 +67,14 @@ fn answer_words(word: &str, files: &[OsString], output: &mut impl Write) -> io::
     Ok(())
 }
 
-fn write_sheets(input: &mut impl Read, every: usize, folder: &str) -> io::Result<()> {
+fn write_sheets(input: &mut impl Read, every: usize, folder: &str, replies: bool) -> io::Result<()> {
     let mut number = 0;
-    while let Some((sheet, _)) = next_trial(input)? {
+    while let Some(Trial { sheet, reply, .. }) = next_trial(input)? {
         if number % every == 0 {
             fs::write(format!("{}/{}", folder, number), sheet)?;
+            if replies {
+                fs::write(format!("{}/{}.reply", folder, number), reply)?;
+            }
         }
         number += 1;
     }
@@ -71,30 +82,34 @@ fn write_sheets(input: &mut impl Read, every: usize, folder: &str) -> io::Result
 }
 
 fn answer(input: &mut impl Read, output: &mut impl Write) -> io::Result<()> {
-    while let Some((sheet, questions)) = next_trial(input)? {
-        let mut asked = Asked::about(sheet);
-        for (subject, number) in questions {
+    while let Some(trial) = next_trial(input)? {
+        let mut asked = Asked::about(trial.sheet, trial.reply);
+        for (subject, number) in trial.questions {
             output.write_all(&asked.answer(subject, number))?;
         }
     }
     Ok(())
 }
 
-type Trial = (Vec<u8>, Vec<(u8, u64)>);
+struct Trial {
+    sheet: Vec<u8>,
+    reply: Vec<u8>,
+    questions: Vec<(u8, u64)>,
+}
 
 fn next_trial(input: &mut impl Read) -> io::Result<Option<Trial>> {
-    let mut first = [0];
-    if input.read(&mut first)? == 0 {
+    let mut head = [0; 12];
+    if input.read(&mut head[..1])? == 0 {
         return Ok(None);
     }
-    let mut rest = [0; 7];
-    input.read_exact(&mut rest)?;
-    let length = u32::from_le_bytes([first[0], rest[0], rest[1], rest[2]]) as usize;
-    let count = u32::from_le_bytes([rest[3], rest[4], rest[5], rest[6]]);
-    let mut sheet = vec![0; length];
+    input.read_exact(&mut head[1..])?;
+    let number =
+        |at: usize| u32::from_le_bytes([head[at], head[at + 1], head[at + 2], head[at + 3]]) as usize;
+    let (mut sheet, mut reply) = (vec![0; number(0)], vec![0; number(4)]);
     input.read_exact(&mut sheet)?;
-    let questions = (0..count).map(|_| next_question(input)).collect::<io::Result<_>>()?;
-    Ok(Some((sheet, questions)))
+    input.read_exact(&mut reply)?;
+    let questions = (0..number(8)).map(|_| next_question(input)).collect::<io::Result<_>>()?;
+    Ok(Some(Trial { sheet, reply, questions }))
 }
 
 fn next_question(input: &mut impl Read) -> io::Result<(u8, u64)> {

@@ -1,19 +1,40 @@
-// The script of an accepted sheet (document 01, "Node kinds and their script text", "The script").
+// The script of an accepted sheet (document 01, "Node kinds and their script text", "The script"), and its second
+// form (document 02, item 1).
 
 use crate::reading::Rule;
 use crate::trees::Tree;
 
+/// The script that asks for a verdict alone.
 pub fn script(rule: &Rule) -> String {
+    lines(rule).iter().map(|line| line.to_string() + "\n").collect()
+}
+
+/// The script that asks for the variables' values too.
+pub fn asking(rule: &Rule) -> String {
+    let mut lines = lines(rule);
+    let symbols: Vec<String> = (0..rule.variables.len()).map(symbol).collect();
+    if !symbols.is_empty() {
+        lines.insert(lines.len() - 1, format!("(get-value ({}))", symbols.join(" ")));
+    }
+    lines.insert(0, "(set-option :produce-models true)".to_string());
+    lines.iter().map(|line| line.to_string() + "\n").collect()
+}
+
+fn lines(rule: &Rule) -> Vec<String> {
     let numbered = || rule.variables.iter().enumerate();
-    let declared = numbered().map(|(number, _)| format!("(declare-fun v{} () (_ BitVec 16))", number));
+    let declared = numbered().map(|(number, _)| format!("(declare-fun {} () (_ BitVec 16))", symbol(number)));
     let ranges = numbered().map(|(number, variable)| {
         let (least, greatest) = (literal(variable.least), literal(variable.greatest));
-        format!("(assert (and (bvsle {0} v{1}) (bvsle v{1} {2})))", least, number, greatest)
+        format!("(assert (and (bvsle {0} {1}) (bvsle {1} {2})))", least, symbol(number), greatest)
     });
     let goal = format!("(assert (not {}))", term(&rule.goal));
     let first = ["(set-logic QF_UFBV)".to_string()];
     let last = [goal, "(check-sat)".to_string(), "(exit)".to_string()];
-    first.into_iter().chain(declared).chain(ranges).chain(last).map(|line| line + "\n").collect()
+    first.into_iter().chain(declared).chain(ranges).chain(last).collect()
+}
+
+fn symbol(number: usize) -> String {
+    format!("v{}", number)
 }
 
 fn literal(value: i64) -> String {
@@ -26,7 +47,7 @@ fn term(tree: &Tree) -> String {
         1 => "true".to_string(),
         2 => "false".to_string(),
         16 => literal(tree.leaf),
-        17 => format!("v{}", tree.leaf),
+        17 => symbol(tree.leaf as usize),
         kind => format!("({} {})", operator(kind), operands.join(" ")),
     }
 }

@@ -77,7 +77,7 @@ fn one_case(random: &mut Random, out: &mut Output, variables: usize, which: &str
 }
 
 /// True in this case and in no other.
-fn at(random: &mut Random, domains: &[Range], case: &[i64]) -> Tree {
+pub fn at(random: &mut Random, domains: &[Range], case: &[i64]) -> Tree {
     let each = domains.iter().zip(case).enumerate();
     let each: Vec<Tree> = each.map(|(number, (&domain, &value))| is(random, number, domain, value)).collect();
     all_of(random, each)

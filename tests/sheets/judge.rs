@@ -1,7 +1,7 @@
 // Compares the library's answers with the oracle's, and the oracle's with what is known beforehand;
 // tells what was met, going by the oracle's answers alone.
 
-use crate::met::{kinds_of_answer, LONGEST};
+use crate::met::{kinds_of_answer, LONGEST, LONGEST_ASKING};
 use crate::question::{Answer, Known, Question};
 use std::collections::BTreeMap;
 
@@ -21,6 +21,7 @@ const MOST_TOLD: usize = 5;
 
 pub struct Trial<'t> {
     pub sheet: &'t [u8],
+    pub reply: &'t [u8],
     pub questions: Vec<Question>,
 }
 
@@ -46,12 +47,12 @@ pub fn judge(trials: &[u8], notes: &str, mut wanted: &[u8], mut got: &[u8]) -> V
 
 fn judge_trial(verdict: &mut Verdict, trial: &Trial, note: &Note, wanted: &mut &[u8], got: &mut &[u8]) {
     verdict.sheets += 1;
-    let mut reading = None;
+    let mut first = None;
     for (i, (&question, known)) in trial.questions.iter().zip(&note.known).enumerate() {
         let known = known.as_ref().map(|known| Answer::known(question, known));
         let (wanted, got) = (next_answer(wanted, question), next_answer(got, question));
         if i == 0 {
-            reading = wanted.as_ref().map(Answer::refusal);
+            first = wanted.clone();
         }
         if known.is_some() && known != wanted {
             verdict.differ(trial, note, question, ("known", &known), ("the oracle", &wanted));
@@ -59,14 +60,14 @@ fn judge_trial(verdict: &mut Verdict, trial: &Trial, note: &Note, wanted: &mut &
         if wanted != got {
             verdict.differ(trial, note, question, ("the oracle", &wanted), ("the library", &got));
         }
-        if let (Some(reading), Some(wanted)) = (reading, wanted) {
-            let kinds = kinds_of_answer(trial.sheet, question, &wanted, reading);
+        if let (Some(first), Some(wanted)) = (&first, wanted) {
+            let kinds = kinds_of_answer(trial, question, &wanted, first);
             kinds.into_iter().for_each(|kind| verdict.meet(kind));
             verdict.measure(question, &wanted);
         }
         verdict.answers += 1;
     }
-    match reading {
+    match first.as_ref().map(Answer::refusal) {
         Some(refusal) if label_agrees(note.label, refusal) => verdict.meet(note.label.to_string()),
         Some(refusal) => {
             verdict.tell(format!("sheet {} '{}' got refusal {}", verdict.sheets - 1, note.label, refusal))
@@ -100,16 +101,23 @@ impl Verdict {
     }
 
     fn measure(&mut self, question: Question, answer: &Answer) {
-        if let (Question::Script(_), 0) = (question, answer.refusal()) {
-            let longest = self.met.entry(LONGEST.to_string()).or_insert(0);
-            *longest = answer.low().max(*longest);
+        let longest = match question {
+            Question::Script(_) => LONGEST,
+            Question::Ask(_) => LONGEST_ASKING,
+            _ => return,
+        };
+        if answer.refusal() == 0 {
+            let length = self.met.entry(longest.to_string()).or_insert(0);
+            *length = answer.low().max(*length);
         }
     }
 
     /// Tells that two say different things about a question of the trial.
     fn differ(&mut self, trial: &Trial, note: &Note, question: Question, one: Says, other: Says) {
         let at = first_difference(one.1, other.1);
-        let sheet = format!("sheet {} '{}' ({} bytes)", self.sheets - 1, note.label, trial.sheet.len());
+        let reply = if trial.reply.is_empty() { String::new() } else { told_reply(trial.reply) };
+        let sheet =
+            format!("sheet {} '{}' ({} bytes){}", self.sheets - 1, note.label, trial.sheet.len(), reply);
         let both = format!(
             "{}: {}; {}: {}",
             one.0,
@@ -119,6 +127,13 @@ impl Verdict {
         );
         self.tell(format!("answer {}: {}, {}: {}", self.answers, sheet, question.in_words(), both));
     }
+}
+
+/// A reply's length and its beginning.
+fn told_reply(reply: &[u8]) -> String {
+    let begins: String =
+        reply.iter().take(500).flat_map(|&byte| std::ascii::escape_default(byte)).map(char::from).collect();
+    format!(", reply '{}' ({} bytes)", begins, reply.len())
 }
 
 /// Where two rooms of the same length differ first.
@@ -139,11 +154,11 @@ fn in_words(question: Question, answer: &Option<Answer>, at: Option<usize>) -> S
 
 pub fn next_trial<'t>(rest: &mut &'t [u8]) -> Trial<'t> {
     let number = |bytes: &[u8]| u32::from_le_bytes(bytes.try_into().expect("four bytes")) as usize;
-    let (length, count) = (number(take(rest, 4)), number(take(rest, 4)));
-    let sheet = take(rest, length);
+    let [length, reply_length, count] = [(); 3].map(|()| number(take(rest, 4)));
+    let (sheet, reply) = (take(rest, length), take(rest, reply_length));
     let questions = take(rest, 9 * count).chunks_exact(9);
     let questions = questions.map(|question| Question::from(question[0], eight(&question[1..])));
-    Trial { sheet, questions: questions.collect() }
+    Trial { sheet, reply, questions: questions.collect() }
 }
 
 fn next_note(note: &str) -> Note<'_> {

@@ -12,6 +12,7 @@
 
 mod accepted;
 mod alter;
+mod ask_edges;
 mod asked;
 mod at_once;
 mod bulk;
@@ -35,6 +36,15 @@ mod nodes;
 mod question;
 mod random;
 mod ranges;
+mod replies;
+mod reply_edges;
+mod reply_met;
+mod reply_questions;
+mod reply_random;
+mod reply_required;
+mod reply_rewrites;
+mod reply_subjects;
+mod reply_text;
 mod required;
 mod script_edges;
 mod script_questions;
@@ -59,7 +69,7 @@ use trial::{Output, Part, PARTS};
 type Make = fn(&mut Random, &mut Output);
 
 /// The groups of each part; the first one of a part is small.
-const GROUPS: [(Part, &str, Make); 29] = [
+const GROUPS: [(Part, &str, Make); 46] = [
     (Part::Reading, "edge-cases", edges::make),
     (Part::Reading, "accepted", accepted::make),
     (Part::Reading, "refusal-1", whole_sheet::refusal_1),
@@ -89,6 +99,23 @@ const GROUPS: [(Part, &str, Make); 29] = [
     (Part::Script, "script-many-cases", scripts::many_cases),
     (Part::Script, "script-solvers", solver_sheets::make),
     (Part::Script, "script-refused-sheets", refused_sheets),
+    (Part::Ask, "ask-edge-cases", ask_edges::make),
+    (Part::Ask, "ask-any", scripts::any),
+    (Part::Ask, "ask-kinds", scripts::kinds),
+    (Part::Ask, "ask-long", scripts::long),
+    (Part::Ask, "ask-many-cases", scripts::many_cases),
+    (Part::Ask, "ask-solvers", solver_sheets::make),
+    (Part::Ask, "ask-refused-sheets", refused_sheets),
+    (Part::Replies, "replies-edge-cases", reply_edges::make),
+    (Part::Replies, "replies-spelled", replies::spelled),
+    (Part::Replies, "replies-damaged", replies::damaged),
+    (Part::Replies, "replies-every-byte", replies::every_byte),
+    (Part::Replies, "replies-long", replies::long),
+    (Part::Replies, "replies-unsat", replies::unsat),
+    (Part::Replies, "replies-rewritten", reply_rewrites::make),
+    (Part::Replies, "replies-others", replies::others),
+    (Part::Replies, "replies-at-random", reply_random::make),
+    (Part::Replies, "replies-refused-sheets", refused_sheets),
 ];
 
 /// Sheets refused with 1 to 8, put to the calls of another part.
@@ -211,7 +238,7 @@ fn scripts_to(mut trials: &[u8], mut got: &[u8], folder: &str) -> io::Result<()>
     while !trials.is_empty() {
         for question in judge::next_trial(&mut trials).questions {
             match (question, judge::next_answer(&mut got, question)) {
-                (Question::Script(_), Some(answer)) if answer.refusal() == 0 => {
+                (Question::Script(_) | Question::Ask(_), Some(answer)) if answer.refusal() == 0 => {
                     fs::write(format!("{}/{}.smt2", folder, number), &answer.room[..answer.low() as usize])?;
                 }
                 _ => {}

@@ -1,24 +1,30 @@
 // The kinds of answer that an answer is an instance of; `required` lists all that must be met.
 
+use crate::judge::Trial;
 use crate::layout::*;
 use crate::limits::*;
 use crate::question::{Answer, Question};
+use crate::reply_met;
 use crate::trees::KINDS;
 
-/// `reading` is the number of the refusal that the sheet is read with.
-pub fn kinds_of_answer(sheet: &[u8], question: Question, answer: &Answer, reading: u64) -> Vec<String> {
+/// `first` is the answer to the trial's first question: the reading of the sheet, or of the reply.
+pub fn kinds_of_answer(trial: &Trial, question: Question, answer: &Answer, first: &Answer) -> Vec<String> {
+    let sheet = trial.sheet;
     match question {
         Question::Read => kinds_of_reading("read", sheet, answer),
-        Question::Name(variable) => kinds_of_name(variable, answer.said, reading),
+        Question::Name(variable) => kinds_of_name(variable, answer.said, first.refusal()),
         Question::Block(k) => vec![kind_of_block(sheet, k, answer.said)],
         Question::Check(_) => kinds_of_check(sheet, answer),
         Question::Tally => kinds_of_tally(sheet, answer),
-        Question::Script(_) => kinds_of_script(sheet, answer),
+        Question::Script(_) => kinds_of_script("script", sheet, answer),
+        Question::Ask(_) => kinds_of_script("ask", sheet, answer),
+        Question::Reply => reply_met::kinds_of_reply(trial, answer),
+        Question::Digits(variable) => reply_met::kinds_of_digits(variable, answer.said, first),
     }
 }
 
 /// Accepted, or a refusal 1 to 8, as this call has it.
-fn kinds_of_reading(call: &str, sheet: &[u8], answer: &Answer) -> Vec<String> {
+pub fn kinds_of_reading(call: &str, sheet: &[u8], answer: &Answer) -> Vec<String> {
     let (number, place) = (answer.refusal(), answer.low() as usize);
     match number {
         0 => vec![format!("{}: accepted, {} blocks", call, sheet.len() / BLOCK)],
@@ -122,10 +128,12 @@ fn kinds_of_tally(sheet: &[u8], answer: &Answer) -> Vec<String> {
     vec![format!("tally: {}", counts), format!("tally: {}", count)]
 }
 
-/// The label under which the length of the longest script is told.
+/// The labels under which the length of the longest script is told, in each form.
 pub const LONGEST: &str = "script: the longest, in bytes";
+pub const LONGEST_ASKING: &str = "ask: the longest, in bytes";
 
-fn kinds_of_script(sheet: &[u8], answer: &Answer) -> Vec<String> {
+/// A script as this call writes it.
+fn kinds_of_script(call: &str, sheet: &[u8], answer: &Answer) -> Vec<String> {
     let (length, room) = (answer.low() as usize, answer.room.len());
     match answer.refusal() {
         0 => {
@@ -136,9 +144,9 @@ fn kinds_of_script(sheet: &[u8], answer: &Answer) -> Vec<String> {
                 _ => "room for more",
             };
             vec![
-                format!("script: written, V = {}", sheet[VARIABLE_COUNT]),
-                format!("script: written, {} blocks", sheet.len() / BLOCK),
-                format!("script: written, {}", room),
+                format!("{}: written, V = {}", call, sheet[VARIABLE_COUNT]),
+                format!("{}: written, {} blocks", call, sheet.len() / BLOCK),
+                format!("{}: written, {}", call, room),
             ]
         }
         9 => {
@@ -147,8 +155,8 @@ fn kinds_of_script(sheet: &[u8], answer: &Answer) -> Vec<String> {
                 _ if room + 1 == length => "one byte short",
                 _ => "less room",
             };
-            vec![format!("script: 9, {}", room)]
+            vec![format!("{}: 9, {}", call, room)]
         }
-        _ => kinds_of_reading("script", sheet, answer),
+        _ => kinds_of_reading(call, sheet, answer),
     }
 }

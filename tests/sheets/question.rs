@@ -1,4 +1,4 @@
-// Questions about a sheet, the rooms that some of them lend, and answers.
+// Questions about a sheet and a reply, the rooms that some of them lend, and answers.
 
 /// A lent room. Its bytes are first what the pattern gives, so that a store shows.
 #[derive(Clone, Copy)]
@@ -26,6 +26,9 @@ pub enum Question {
     Check(Room),
     Tally,
     Script(Room),
+    Ask(Room),
+    Reply,
+    Digits(u16),
 }
 
 impl Question {
@@ -37,6 +40,9 @@ impl Question {
             Question::Check(room) => (4, room.number()),
             Question::Tally => (5, 0),
             Question::Script(room) => (6, room.number()),
+            Question::Ask(room) => (7, room.number()),
+            Question::Reply => (8, 0),
+            Question::Digits(variable) => (9, variable.into()),
         }
     }
 
@@ -48,6 +54,9 @@ impl Question {
             4 => Question::Check(Room::from(number)),
             5 => Question::Tally,
             6 => Question::Script(Room::from(number)),
+            7 => Question::Ask(Room::from(number)),
+            8 => Question::Reply,
+            9 => Question::Digits(number as u16),
             _ => panic!("no question has subject {}", subject),
         }
     }
@@ -55,7 +64,7 @@ impl Question {
     /// The lent room's bytes as they are before the call; none are lent without a room.
     pub fn filled(self) -> Vec<u8> {
         let pattern = match self {
-            Question::Check(room) | Question::Script(room) => room.pattern,
+            Question::Check(room) | Question::Script(room) | Question::Ask(room) => room.pattern,
             _ => 0,
         };
         let byte = |place: usize| pattern.wrapping_mul(2 * place as u32 + 1).to_be_bytes()[0];
@@ -65,7 +74,7 @@ impl Question {
     pub fn room_bytes(self) -> usize {
         match self {
             Question::Check(room) => 2 * room.length,
-            Question::Script(room) => room.length,
+            Question::Script(room) | Question::Ask(room) => room.length,
             _ => 0,
         }
     }
@@ -78,6 +87,9 @@ impl Question {
             Question::Check(room) => format!("check with room for {}", room.length),
             Question::Tally => "tally".to_string(),
             Question::Script(room) => format!("script with room for {}", room.length),
+            Question::Ask(room) => format!("ask with room for {}", room.length),
+            Question::Reply => "reply".to_string(),
+            Question::Digits(variable) => format!("digits {}", variable),
         }
     }
 }
@@ -148,15 +160,17 @@ impl Answer {
     pub fn in_words(&self, question: Question) -> String {
         match question {
             Question::Read if self.said == 0 => "accepted".to_string(),
-            Question::Name(_) if self.said != 0 => {
+            Question::Name(_) | Question::Digits(_) if self.said != 0 => {
                 format!("{} bytes at {}", self.said % 65_536, self.said / 65_536)
             }
-            Question::Name(_) | Question::Block(_) => format!("{} bytes", self.said),
+            Question::Name(_) | Question::Block(_) | Question::Digits(_) => format!("{} bytes", self.said),
             _ if self.refusal() != 0 => format!("refused {} at {}", self.refusal(), self.low()),
             Question::Check(_) if self.low() == 0 => "holds".to_string(),
             Question::Check(_) if self.low() == 1 => "fails".to_string(),
             Question::Tally => format!("held {}, failed {}", self.low() >> 24, self.low() % (1 << 24)),
-            Question::Script(_) => format!("{} bytes", self.low()),
+            Question::Script(_) | Question::Ask(_) => format!("{} bytes", self.low()),
+            Question::Reply if self.low() == 0 => "unsat claimed".to_string(),
+            Question::Reply if self.low() == 1 => "fails".to_string(),
             _ => format!("{}", self.low()),
         }
     }

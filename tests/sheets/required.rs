@@ -3,6 +3,7 @@
 
 use crate::case_required;
 use crate::limits::*;
+use crate::reply_required;
 use crate::script_required;
 use crate::trial::Part;
 use std::collections::BTreeSet;
@@ -17,6 +18,8 @@ pub fn of(parts: &[Part]) -> BTreeSet<String> {
             Part::Reading => of_reading(&mut all),
             Part::Cases => case_required::of_cases(&mut all),
             Part::Script => script_required::of_script(&mut all),
+            Part::Ask => reply_required::of_ask(&mut all),
+            Part::Replies => reply_required::of_replies(&mut all),
         }
     }
     all.into_iter().collect()

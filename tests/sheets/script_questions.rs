@@ -2,18 +2,54 @@
 
 use crate::case_questions::room;
 use crate::limits::ENOUGH_ROOM;
-use crate::question::{Known, Question};
+use crate::question::{Known, Question, Room};
 use crate::random::Random;
 use crate::trees::*;
 use crate::trial::{reading, Asked, Expected, Refused};
 
+/// Which of the two scripts a sheet has is asked for: one for a verdict, or one for the variables' values too.
+#[derive(Clone, Copy, PartialEq)]
+pub enum Form {
+    Plain,
+    Asking,
+}
+
+impl Form {
+    /// The call's name.
+    pub fn call(self) -> &'static str {
+        match self {
+            Form::Plain => "script",
+            Form::Asking => "ask",
+        }
+    }
+
+    pub fn question(self, room: Room) -> Question {
+        match self {
+            Form::Plain => Question::Script(room),
+            Form::Asking => Question::Ask(room),
+        }
+    }
+
+    /// The bytes that the form has more than the plain one, with symbols of so many bytes.
+    fn more(self, variables: usize, symbols: usize) -> usize {
+        match (self, variables) {
+            (Form::Plain, _) => 0,
+            (Form::Asking, 0) => "(set-option :produce-models true)\n".len(),
+            // Between the symbols stands a blank.
+            (Form::Asking, _) => {
+                "(set-option :produce-models true)\n(get-value ())\n".len() + symbols + variables - 1
+            }
+        }
+    }
+}
+
 /// The bytes of the script with this goal and so many variables.
-pub fn script_length(goal: &Tree, variables: usize) -> usize {
+pub fn script_length(form: Form, goal: &Tree, variables: usize) -> usize {
     let symbols: usize = (0..variables).map(symbol).sum();
     let declarations = "(declare-fun  () (_ BitVec 16))\n".len() * variables + symbols;
     let ranges = "(assert (and (bvsle #x0000 ) (bvsle  #x0000)))\n".len() * variables + 2 * symbols;
     let others = "(set-logic QF_UFBV)\n(assert (not ))\n(check-sat)\n(exit)\n".len();
-    declarations + ranges + others + text_length(goal)
+    declarations + ranges + others + text_length(goal) + form.more(variables, symbols)
 }
 
 fn symbol(variable: usize) -> usize {
@@ -43,16 +79,16 @@ fn text_length(tree: &Tree) -> usize {
 }
 
 /// The reading, and the script with no room, less, one byte too little, just enough, one byte more, and enough for all.
-pub fn every_room(random: &mut Random, length: usize) -> Vec<Asked> {
+pub fn every_room(random: &mut Random, form: Form, length: usize) -> Vec<Asked> {
     let less = random.below(length);
     let lengths = [0, less, length - 1, length, length + 1, ENOUGH_ROOM];
     let known = |room: usize| (room < length).then(|| Known::refused(9, length));
-    let scripts = lengths.iter().map(|&bytes| (Question::Script(room(random, bytes)), known(bytes)));
+    let scripts = lengths.iter().map(|&bytes| (form.question(room(random, bytes)), known(bytes)));
     [(Question::Read, Some(Known::said(0)))].into_iter().chain(scripts).collect()
 }
 
 /// Questions about any sheet: of a refused one all answers are known, whatever room is lent.
-pub fn any(random: &mut Random, expected: Expected) -> Vec<Asked> {
+pub fn any(random: &mut Random, form: Form, expected: Expected) -> Vec<Asked> {
     let known = match expected {
         Refused(number, place) => Some(Known::refused(number, place)),
         _ => None,
@@ -61,8 +97,8 @@ pub fn any(random: &mut Random, expected: Expected) -> Vec<Asked> {
     let length = random.pick(&[0, 1, any_length, any_length]);
     vec![
         (Question::Read, reading(expected).map(Known::said)),
-        (Question::Script(room(random, length)), known.clone()),
+        (form.question(room(random, length)), known.clone()),
         // Not often, since a long room takes long to compare.
-        (Question::Script(room(random, if length % 16 == 0 { ENOUGH_ROOM } else { 200 })), known),
+        (form.question(room(random, if length % 16 == 0 { ENOUGH_ROOM } else { 200 })), known),
     ]
 }

@@ -12,7 +12,7 @@ use crate::trial::Output;
 pub fn any(random: &mut Random, out: &mut Output) {
     for _ in 0..480 {
         for variables in 0..=MOST_VARIABLES {
-            put(random, out, "accepted: script, any", variables, |grower| {
+            put(random, out, "any", variables, |grower| {
                 let size = any_size(grower.random);
                 grower.truth(size)
             });
@@ -24,7 +24,7 @@ pub fn kinds(random: &mut Random, out: &mut Output) {
     for _ in 0..150 {
         for kind in KINDS {
             let variables = 1 + random.below(MOST_VARIABLES);
-            put(random, out, &format!("accepted: script, a node of kind {}", kind), variables, |grower| {
+            put(random, out, &format!("a node of kind {}", kind), variables, |grower| {
                 let size = 4 + grower.random.below(12);
                 let tree = grower.of_kind(kind, size);
                 grower.goal_with(tree)
@@ -43,8 +43,14 @@ fn put(
     let mut grower = Grower::new(random, variables);
     let goal = grow(&mut grower);
     let sheet = grower.sheet(&Table::of(&goal));
-    let questions = every_room(random, script_length(&goal, variables));
-    out.ask_all(label, &sheet, &questions);
+    ask(random, out, label, &sheet, &goal, variables);
+}
+
+/// Asks for the script in every room.
+fn ask(random: &mut Random, out: &mut Output, label: &str, sheet: &[u8], goal: &Tree, variables: usize) {
+    let form = out.form();
+    let questions = every_room(random, form, script_length(form, goal, variables));
+    out.ask_all(&format!("accepted: {}, {}", form.call(), label), sheet, &questions);
 }
 
 // ---- numbers
@@ -75,18 +81,17 @@ fn one_number(random: &mut Random, out: &mut Output, value: i64) {
     grower.variables[number].domain = domain;
     let goal = node(10, vec![variable(number, domain), constant(value)]);
     let sheet = grower.sheet(&Table::of(&goal));
-    let questions = every_room(random, script_length(&goal, variables));
-    out.ask_all("accepted: script, a number", &sheet, &questions);
+    ask(random, out, "a number", &sheet, &goal, variables);
 }
 
 // ---- long scripts
 
 pub fn long(random: &mut Random, out: &mut Output) {
     for _ in 0..10 {
-        put(random, out, "accepted: script, the longest", MOST_VARIABLES, longest);
+        put(random, out, "the longest", MOST_VARIABLES, longest);
     }
     for _ in 0..400 {
-        put(random, out, "accepted: script, long", MOST_VARIABLES, |grower| {
+        put(random, out, "long", MOST_VARIABLES, |grower| {
             let size = MOST_NODES - grower.random.below(40);
             grower.truth(size)
         });
@@ -117,8 +122,7 @@ pub fn many_cases(random: &mut Random, out: &mut Output) {
             let size = 3 + grower.random.below(20);
             let goal = grower.truth(size);
             let sheet = grower.sheet(&Table::of(&goal));
-            let questions = every_room(random, script_length(&goal, sizes.len()));
-            out.ask_all("accepted: script, too many cases to check", &sheet, &questions);
+            ask(random, out, "too many cases to check", &sheet, &goal, sizes.len());
         }
     }
 }

@@ -16,10 +16,10 @@ pub fn make(random: &mut Random, out: &mut Output) {
         let mut grower = Grower::with_domains(random, &domains);
         let size = 3 + grower.random.below(20);
         let goal = telling(&mut grower, size);
-        put(random, out, &domains, "accepted: script for solvers, any", &goal);
+        put(random, out, &domains, "any", &goal);
         // What implies itself holds, and few others do.
         let goal = node(random.pick(&[6, 7]), vec![goal.clone(), goal]);
-        put(random, out, &domains, "accepted: script for solvers, holds", &goal);
+        put(random, out, &domains, "holds", &goal);
     }
     for _ in 0..20 {
         about_zero(random, out);
@@ -35,7 +35,7 @@ fn about_zero(random: &mut Random, out: &mut Output) {
     let x = || variable(0, domain);
     for (kind, bound) in [(9, greatest), (10, greatest), (9, greatest + 1), (10, -1), (9, 0), (10, 0)] {
         let goal = node(kind, vec![x(), constant(bound)]);
-        put(random, out, &[domain], "accepted: script for solvers, about zero", &goal);
+        put(random, out, &[domain], "about zero", &goal);
     }
 }
 
@@ -52,16 +52,17 @@ fn one_not_read(random: &mut Random, out: &mut Output) {
     };
     let goal =
         read.into_iter().map(below).reduce(|one, other| node(5, vec![one, other])).expect("three are read");
-    put(random, out, &domains, "accepted: script for solvers, a variable not read", &goal);
+    put(random, out, &domains, "a variable not read", &goal);
 }
 
 fn put(random: &mut Random, out: &mut Output, domains: &[Range], label: &str, goal: &Tree) {
     let sheet = Grower::with_domains(random, domains).sheet(&Table::of(goal));
-    let questions = every_room(random, script_length(goal, domains.len()));
+    let form = out.form();
+    let questions = every_room(random, form, script_length(form, goal, domains.len()));
     let enough = |asked: &Asked| match asked.0 {
-        Question::Script(room) => room.length == ENOUGH_ROOM,
+        Question::Script(room) | Question::Ask(room) => room.length == ENOUGH_ROOM,
         _ => true,
     };
     let questions: Vec<Asked> = questions.into_iter().filter(enough).collect();
-    out.ask_all(label, &sheet, &questions);
+    out.ask_all(&format!("accepted: {} for solvers, {}", form.call(), label), &sheet, &questions);
 }

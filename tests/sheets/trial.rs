@@ -1,11 +1,12 @@
-// A trial: a sheet, the questions about it, and what is known beforehand of the answers.
+// A trial: a sheet, a reply, the questions about them, and what is known beforehand of the answers.
 
 use crate::case_questions;
 use crate::layout::VARIABLE_COUNT;
 use crate::limits::{BLOCK, MOST_VARIABLES};
 use crate::question::{Known, Question};
 use crate::random::Random;
-use crate::script_questions;
+use crate::reply_questions;
+use crate::script_questions::{self, Form};
 use std::fs::File;
 use std::io::{BufWriter, Write};
 
@@ -34,10 +35,17 @@ pub enum Part {
     Reading,
     Cases,
     Script,
+    Ask,
+    Replies,
 }
 
-pub const PARTS: [(&str, Part); 3] =
-    [("reading", Part::Reading), ("cases", Part::Cases), ("script", Part::Script)];
+pub const PARTS: [(&str, Part); 5] = [
+    ("reading", Part::Reading),
+    ("cases", Part::Cases),
+    ("script", Part::Script),
+    ("ask", Part::Ask),
+    ("replies", Part::Replies),
+];
 
 /// Block numbers whose place in bytes, or whose k + 1, leaves one width of number or another.
 pub const FAR_BLOCKS: [u64; 18] = [
@@ -67,7 +75,7 @@ pub const FAR_VARIABLES: [u16; 9] = [15, 16, 17, 255, 256, 257, 32_767, 32_768, 
 /// A question and, where it is known, its answer.
 pub type Asked = (Question, Option<Known>);
 
-/// Where trials go: the sheets and questions to one file, what is known of them to another.
+/// Where trials go: the sheets, replies and questions to one file, what is known of them to another.
 pub struct Output {
     part: Part,
     trials: BufWriter<File>,
@@ -84,9 +92,21 @@ impl Output {
         let questions = match self.part {
             Part::Reading => reading_questions(random, sheet, expected),
             Part::Cases => case_questions::any(random, sheet, expected),
-            Part::Script => script_questions::any(random, expected),
+            Part::Script | Part::Ask => script_questions::any(random, self.form(), expected),
+            Part::Replies => {
+                let (reply, questions) = reply_questions::any(random, sheet, expected);
+                return self.ask_about(label, sheet, &reply, &questions);
+            }
         };
         self.ask_all(label, sheet, &questions);
+    }
+
+    /// The form of the scripts that are asked for.
+    pub fn form(&self) -> Form {
+        match self.part {
+            Part::Ask => Form::Asking,
+            _ => Form::Plain,
+        }
     }
 
     /// Puts a sheet with these questions, which lend no room, and, where they are known, their answers.
@@ -98,16 +118,23 @@ impl Output {
 
     /// Puts a sheet with these questions and, where they are known, their answers.
     pub fn ask_all(&mut self, label: &str, sheet: &[u8], questions: &[Asked]) {
-        self.write_trial(sheet, questions).expect("the trials can be written");
+        self.ask_about(label, sheet, &[], questions);
+    }
+
+    /// The same with a reply.
+    pub fn ask_about(&mut self, label: &str, sheet: &[u8], reply: &[u8], questions: &[Asked]) {
+        self.write_trial(sheet, reply, questions).expect("the trials can be written");
         let word = |known: &Option<Known>| known.as_ref().map_or("-".to_string(), Known::word);
         let known: Vec<String> = questions.iter().map(|(_, known)| word(known)).collect();
         writeln!(self.notes, "{}\t{}", label, known.join(" ")).expect("the notes can be written");
     }
 
-    fn write_trial(&mut self, sheet: &[u8], questions: &[Asked]) -> std::io::Result<()> {
-        self.trials.write_all(&(sheet.len() as u32).to_le_bytes())?;
-        self.trials.write_all(&(questions.len() as u32).to_le_bytes())?;
+    fn write_trial(&mut self, sheet: &[u8], reply: &[u8], questions: &[Asked]) -> std::io::Result<()> {
+        for count in [sheet.len(), reply.len(), questions.len()] {
+            self.trials.write_all(&(count as u32).to_le_bytes())?;
+        }
         self.trials.write_all(sheet)?;
+        self.trials.write_all(reply)?;
         for (question, _) in questions {
             let (subject, number) = question.subject_and_number();
             self.trials.write_all(&[subject])?;
