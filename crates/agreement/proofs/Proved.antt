@@ -1,8 +1,8 @@
 -- The promises of `specs/Statements`, proved. Assumes nothing.
 use Prim.Native.Nat.{ℕ, _+_, _*_, _≤_}
-use mathlib.Core.Path.{_≡_, refl, subst, _∙_}
+use mathlib.Core.Path.{_≡_, refl, sym, subst, _∙_}
 use mathlib.Core.Logic.{_↔_, Iff·trans, _⊎_, inl, inr, ⊎-elim}
-use mathlib.Core.Bool.{Bool}
+use mathlib.Core.Bool.{Bool, true, false}
 use mathlib.Core.List.{List, map, List·Memᴰ, Memᴰ·map, Memᴰ·of-map}
 use mathlib.Core.Option.{Option, none, some}
 use native.Mathlib.Decide.{decLt, decLe}
@@ -47,7 +47,7 @@ use Rattle.wording.specs.Binary.{inBits}
 use Rattle.wording.specs.Script.{script}
 use Rattle.forms.specs.Width.{WidthHolds}
 use Rattle.forms.proofs.Injective.{script-injective}
-use Rattle.forms.proofs.Forms.{form-declares}
+use Rattle.forms.proofs.Forms.{form-read, form-declares}
 use Rattle.forms.proofs.Sixteen.{form16}
 use Rattle.forms.proofs.Bits.{form-bits}
 use Rattle.forms.proofs.MeansMatch.{one-case}
@@ -148,6 +148,12 @@ pub match : promise.Match
 match models s h =
     let well = allowed h .well-formed in
     match-at-width (sixteen models) 100 (form16 models) (ruleIn s) (omega (arith, well .few)) well (held h)
+
+pub read-alike : promise.ReadAlike
+unfolding form16
+read-alike s h =
+    let well = allowed h .well-formed in
+    form-read (form16 true) (ruleIn s) (omega (arith, well .few)) well ∙ sym (form-read (form16 false) (ruleIn s) (omega (arith, well .few)) well)
 
 -- ---- the check and the tally
 module _ (models : Bool) (s : List ℕ) (h : Sheet s) where

@@ -3,7 +3,7 @@
 -- `capi/specs/Codes`.
 use Prim.Native.Nat.{ℕ, _+_, _/_, _≤_, _<_}
 use mathlib.Core.Path.{_≡_}
-use mathlib.Core.Bool.{Bool}
+use mathlib.Core.Bool.{Bool, true, false}
 use mathlib.Core.Logic.{_↔_, _⊎_}
 use mathlib.Core.List.{List, map, List·Memᴰ}
 use mathlib.Core.Option.{some}
@@ -48,7 +48,7 @@ use Rattle.smtlib.specs.Tokens.{digitValue}
 use Rattle.smtlib.specs.Values.{bitVec}
 use Rattle.smtlib.specs.Terms.{numberOf}
 use Rattle.smtlib.specs.Commands.{Declaration}
-use Rattle.smtlib.specs.Satisfaction.{declared, Satisfies}
+use Rattle.smtlib.specs.Satisfaction.{scriptOf, declared, Satisfies}
 use Rattle.wording.specs.Form.{Form, sixteen}
 use Rattle.wording.specs.Binary.{inBits}
 use Rattle.wording.specs.Script.{script}
@@ -170,6 +170,10 @@ pub record Matched (f : Form) (r : Rule) : Type 0 where
 -- for every accepted sheet and both of its scripts, whose symbols are v0 to v(V - 1)
 abbrev pub Match : Type 0
 Match = (models : Bool) (s : List ℕ) → Sheet s → Matched (sixteen models) (ruleIn s)
+
+-- SMT-LIB reads the same in both: what is declared, and what is asserted
+abbrev pub ReadAlike : Type 0
+ReadAlike = (s : List ℕ) → Sheet s → scriptOf (script (sixteen true) (ruleIn s)) ≡ scriptOf (script (sixteen false) (ruleIn s))
 
 -- over any form that SMT-LIB reads as it is meant, and any width that holds the rule
 abbrev pub MatchAtWidth : Type 0

@@ -227,11 +227,13 @@ fn judge_reply(sheet: &[u8], arguments: usize) {
     libc::close(fd);
 }
 
-// Reads the sheet that an open file has, and judges the reply to it.
+// Reads the sheet that an open file has, and judges the reply to it. The file is closed first: it has standard input's number where that is closed.
 fn judge_by(fd: i32, arguments: usize) {
     let mut input = [0u8; MOST_READ];
     let size = io::read_full(fd, &mut input);
-    if !has_ended(fd, size, MOST_READ) {
+    let is_read = has_ended(fd, size, MOST_READ);
+    libc::close(fd);
+    if !is_read {
         say_failed(b"the sheet", b"cannot be read");
         return;
     }
@@ -253,7 +255,6 @@ fn reply(arguments: usize) {
         return;
     }
     judge_by(fd, arguments);
-    libc::close(fd);
 }
 
 fn help() {
@@ -276,7 +277,7 @@ fail, or unsat claimed. A reply off its grammar is refused 11, a value off its
 domain 12, a case that does not fail 13.
 
 ./ragwashin solve FILE ... asks a solver (z3 or cvc5, or the command in
-RAGWASHIN_SOLVER, for at most RAGWASHIN_SECONDS) and judges its reply.
+RAGWASHIN_SOLVER, for 60 seconds or RAGWASHIN_SECONDS) and judges its reply.
 
 A sheet that is turned away is answered by 'refused R at P'. Where two or more
 files are named, 'FILE: ' stands before each answer.
