@@ -4,11 +4,11 @@ use Prim.Native.Nat.{ℕ, _+_, _/_, _≤_, _<_}
 use mathlib.Core.Path.{_≡_, refl, sym, ap, _∙_}
 use mathlib.Core.Logic.{inl, ⊎-elim}
 use mathlib.Core.Bool.{Bool, true, false}
-use mathlib.Core.List.{List, [], _∷_, _++_, List·Memᴰ·head, List·Memᴰ·tail}
+use mathlib.Core.List.{List, [], _∷_, _++_, map, List·Memᴰ·head, List·Memᴰ·tail}
 use mathlib.Core.Option.{Option, none, some}
 use native.Mathlib.Omega.{arith}
 use denote.Ref.{RefT}
-use lib.Dec.{lit≤}
+use lib.Dec.{lit<, lit≤}
 use lib.IntN.{ℤ, pos, negsuc}
 use lib.ListN.{length, set, take, drop}
 use Rattle.lists.specs.Ascii.{ascii}
@@ -59,7 +59,9 @@ use Rattle.odometer.specs.Limit.{mostCases, caseCount}
 use Rattle.cases.specs.declared.Checked.the-variants.{Holds, Fails}
 use Rattle.cases.specs.Checks.{Checks}
 use Rattle.cases.specs.Tallies.{Tallies}
+use Rattle.smtlib.specs.Tokens.{digitValue}
 use Rattle.smtlib.specs.Values.{bitVec}
+use Rattle.smtlib.specs.Terms.{numberOf}
 use Rattle.smtlib.specs.Commands.{Declaration}
 use Rattle.smtlib.specs.Satisfaction.{declared, Satisfies}
 use Rattle.wording.specs.Sixteen.{hexDigit, hexText, literal, symbolText}
@@ -67,9 +69,16 @@ use Rattle.wording.specs.Form.{sixteen}
 use Rattle.wording.specs.Binary.{inBits}
 use Rattle.wording.specs.Script.{script}
 use Rattle.writer.specs.Writes.{enoughRoom}
+use Rattle.replies.specs.Says.{SpellsSetting, SpellsCase}
+use Rattle.replies.proofs.Spelled.{spells-setting}
+use Rattle.digits.specs.Hashes.{placeBehind}
+use Rattle.trial.specs.declared.Replied.the-variants.{Fails as believed}
+use Rattle.trial.specs.Replies.{Replies}
+use Rattle.trial.specs.Digits.{DigitsPart}
 use Rattle.agreement.specs.Starred.{sheetFrom, sheetA, sheet8, sheet11}
 use Rattle.agreement.specs.Statements.{Sheet, settingOf, Matched, SettingsListed}
 use Rattle.agreement.proofs.Rooms.{rooms-kept}
+use Rattle.agreement.proofs.Believed.{replies-believed, replies-satisfy, digits-read}
 use Rattle.agreement.proofs.Proved.{held as held-in-16}
 use Rattle.agreement.proofs.Proved.{tallied, checked, sheet-of-rule, rule-of-sheet, one-byte-changed, holds-where, first-named, in-sixteen, room-enough, name-empty, block-empty, match, match-in-bits, check-agrees, tally-agrees, same-script}
 
@@ -266,6 +275,32 @@ no-settings-11 = as-many computed11 (lit≤ tt)
 pub names-alone-11 : (models : Bool) → (length sheet11 ≡ length sheet11-renamed) × (byteAt sheet11 10 ≡ byteAt sheet11-renamed 10)
 names-alone-11 models = (same-size computed11 (lit≤ tt) models, same-domain computed11 (lit≤ tt) models)
 
+-- ---- a slice that is lent
+abbrev lent : List ℕ → RefT (List ℕ)
+lent s = record { ptr = (0, 0); name = 0; now = s }
+
+-- ---- replies: a spelling of that case is believed; to the rule that holds none is
+abbrev replyA : List ℕ
+replyA = ascii "sat((v0 #x0000)(v1 #x0001))"
+
+spelled-A : SpellsCase 2 replyA (pos 0 ∷ pos 1 ∷ [])
+unfolding dec symbolText hexText hexDigit
+spelled-A = record { setting = 0 ∷ 1 ∷ []; spelled = spells-setting (0 ∷ 1 ∷ []) (refl, (refl, tt)); case = refl }
+
+pub believed-A : Replies sheetA replyA believed
+believed-A = replies-believed sheetA (sheet computedA (lit≤ tt)) replyA .1 (pos 0 ∷ pos 1 ∷ [], first-A .failing, spelled-A)
+
+pub satisfies-A : (models : Bool) → (t : List ℕ) × Satisfies (script (sixteen models) (ruleIn sheetA)) t × SpellsSetting 2 replyA t
+satisfies-A models = replies-satisfy models sheetA (sheet computedA (lit≤ tt)) replyA .0 believed-A
+
+pub none-believed-11 : (reply : List ℕ) → Replies sheet11 reply believed → ⊥
+none-believed-11 reply h = let w = replies-satisfy true sheet11 (sheet computed11 (lit≤ tt)) reply .0 h in unsatisfiable-11 true (w .0) (w .1)
+
+-- the digits of its second value
+pub digits-A : (part : RefT (List ℕ)) → DigitsPart sheetA (lent replyA) 1 part → dec 16 (numberOf 16 (map digitValue (part .now))) ≡ pos 1
+unfolding placeBehind
+digits-A part p = digits-read sheetA (lent replyA) part 1 p .0 (pos 0 ∷ pos 1 ∷ []) (believed-A, lit< tt) spelled-A
+
 -- ---- a node's range, in the case (0, 1) of sheet A
 pub finding-A : findingAt sheetA 0 ≡ Integer (pos 0 ⋯ pos 1)
 unfolding below course dec find kindOf ofNode findingOf
@@ -291,9 +326,6 @@ pub refused-8 : Answered (sheetRows sheet8) (record { number = 8; place = 2 })
 refused-8 = sheet-exactly sheet8 .refused (record { number = 8; place = 2 }) .0 refusal-8
 
 -- ---- parts of a lent sheet: a name of sheet A, none of the sheet that is refused, and no third block of sheet A
-abbrev lent : List ℕ → RefT (List ℕ)
-lent s = record { ptr = (0, 0); name = 0; now = s }
-
 pub name-A : (part : RefT (List ℕ)) → NamePart (lent sheetA) 0 part → length (part .now) ≡ 0 → ⊥
 name-A part p e = ⊎-elim (λ w. let z : _≡_ {A = ℕ} 0 1 = cc (w .1, accepts computedA (lit≤ tt)) in omega arith) (λ l. omega (arith, two-variables computedA (lit≤ tt))) (name-empty (lent sheetA) part 0 p .0 e)
 

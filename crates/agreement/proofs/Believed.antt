@@ -1,7 +1,6 @@
 -- Replies: exactly those are believed that spell a failing case, and so a setting that satisfies the script; and what a variable's digits say. Assumes nothing.
 use Prim.Native.Nat.{ℕ}
 use mathlib.Core.Path.{_≡_, refl, sym, ap, ap₂, subst, _∙_}
-use mathlib.Core.Bool.{Bool}
 use mathlib.Core.List.{List, [], _∷_, map}
 use borrow.Author.Tests.{ltb-true}
 use lib.Dec.{lit≤}
@@ -20,7 +19,7 @@ use Rattle.trial.specs.declared.Replied.the-variants.{Fails}
 use Rattle.trial.specs.Replies.{Replies}
 use Rattle.trial.proofs.Believed.{accepted-spells, digits-value, digits-empty, failing-spelled}
 use Rattle.agreement.specs.Statements as promise
-use Rattle.agreement.specs.Statements.{Sheet, settingOf}
+use Rattle.agreement.specs.Statements.{settingOf}
 use Rattle.agreement.proofs.Proved.{accepts, held, match}
 
 pub replies-believed : promise.RepliesBelieved

@@ -14,7 +14,8 @@ use Rattle.blocks.proofs.Unique.{block-once}
 use Rattle.reading.proofs.Unique.{read-once, name-once}
 use Rattle.cases.proofs.Unique.{check-once, tally-once}
 use Rattle.writer.proofs.Unique.{write-once}
-use Rattle.trial.proofs.Unique.{reply-once, reply-into-once, digits-once}
+use Rattle.replies.proofs.Unique.{reach-once, one-case}
+use Rattle.trial.proofs.Unique.{reply-once, reply-into-once, digits-once, span-once}
 use Rattle.capi.specs.Codes.{replyCode}
 use Rattle.capi.proofs.ReplyLaws.{digits-code-once}
 use Rattle.agreement.specs.Statements.{OneAnswer}
@@ -51,6 +52,7 @@ one-answer = record {
   reply = λ s reply r t. reply-once;
   reply-into = λ s reply before x y r t. reply-into-once;
   digits = digits-once;
+  digits-span = λ s reply variable a n b m. span-once;
   ragwashin-check = λ s before x y r t h g. (h .code ∙ sym (g .code), h .room ∙ sym (g .room));
   ragwashin-script = λ f s before x y r t h g. (h .code ∙ sym (g .code), h .room ∙ sym (g .room));
   ragwashin-reply = λ s reply r t h g. h .code ∙ ap replyCode (reply-once (h .replies) (g .replies)) ∙ sym (g .code);
@@ -65,4 +67,6 @@ one-between = record {
   advance = λ domains v old x y r t. advance-once;
   writes = λ text before x y at m n h g. (h .place ∙ sym (g .place), h .room ∙ sym (g .room));
   lines = λ n x y h g. h .of [] ∙ sym (g .of []);
+  reach = reach-once;
+  numbers = λ v reply before x y h g. same-row v (one-case (h .case) (g .case)) (h .others ∙ sym (g .others));
 }

@@ -24,7 +24,6 @@ use Rattle.wording.specs.Form.{Form}
 use Rattle.wording.specs.Script.{script}
 use Rattle.room.specs.Room.{over}
 use Rattle.writer.specs.declared.Written.{Written}
-use Rattle.writer.specs.declared.Written.the-variants.{Script, Refused}
 use Rattle.writer.specs.Writes.{scriptRefusal, writtenSaid, Writes}
 use Rattle.agreement.specs.Statements as promise
 use Rattle.agreement.specs.Statements.{CheckRoom, ScriptRoom}

@@ -15,8 +15,12 @@ use Rattle.refusals.specs.declared.Reading.{Reading}
 use Rattle.refusals.specs.Said.{saidOf}
 use Rattle.room.specs.Room.{Wrote}
 use Rattle.lines.specs.Lines.{LinesSize}
+use Rattle.replies.specs.declared.Reached.{Reached}
+use Rattle.replies.specs.Answers.{Answers}
+use Rattle.digits.specs.Ready.{Numbered}
 
--- the steps of the reading, a name's part, the odometer, what writes into room, and how long the lines of variables are
+-- the steps of the reading, a name's part, the odometer, what writes into room, how long the lines of variables are, how far bytes begin a reply, and the numbers
+-- that a reply spells
 pub record OneBetween : Type 0 where
   pub step : (said : Option Refusal) (r t : Reading) → saidOf r ≡ said → saidOf t ≡ said → r ≡ t
   pub part : (whole p q : RefT (List ℕ)) (a n : ℕ) → PartAt whole p a n → PartAt whole q a n → SamePart p q
@@ -24,3 +28,5 @@ pub record OneBetween : Type 0 where
   pub advance : (domains : ℕ → Range) (v : ℕ) (old x y : List ℤ) (r t : Bool) → Advanced domains v old r x → Advanced domains v old t y → (r ≡ t) × (x ≡ y)
   pub writes : (text before x y : List ℕ) (at m n : ℕ) → Wrote text before x at m → Wrote text before y at n → (m ≡ n) × (x ≡ y)
   pub lines : (n x y : ℕ) → LinesSize n x → LinesSize n y → x ≡ y
+  pub reach : (v : ℕ) (reply : List ℕ) (r t : Reached) → Answers v reply r → Answers v reply t → r ≡ t
+  pub numbers : (v : ℕ) (reply : List ℕ) (before x y : List ℤ) → Numbered v reply before x → Numbered v reply before y → x ≡ y

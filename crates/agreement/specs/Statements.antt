@@ -63,7 +63,7 @@ use Rattle.digits.specs.Hashes.{digitsBase}
 use Rattle.trial.specs.declared.Replied.{Replied}
 use Rattle.trial.specs.declared.Replied.the-variants.{Fails as Replied·Fails}
 use Rattle.trial.specs.Replies.{Replies, RepliesInto}
-use Rattle.trial.specs.Digits.{DigitsGiven, DigitsPart}
+use Rattle.trial.specs.Digits.{DigitsGiven, DigitsPart, DigitsSpan}
 
 -- an accepted sheet: bytes to which no row of the table of refusals applies
 pub record Sheet (s : List ℕ) : Type 0 where
@@ -235,6 +235,7 @@ pub record OneAnswer : Type 0 where
   pub reply : (s reply : List ℕ) (r t : Replied) → Replies s reply r → Replies s reply t → r ≡ t
   pub reply-into : (s reply : List ℕ) (before x y : List ℤ) (r t : Replied) → RepliesInto s reply before r x → RepliesInto s reply before t y → (r ≡ t) × (x ≡ y)
   pub digits : (s : List ℕ) (reply : RefT (List ℕ)) (variable : ℕ) (p q : RefT (List ℕ)) → DigitsPart s reply variable p → DigitsPart s reply variable q → SamePart p q
+  pub digits-span : (s reply : List ℕ) (variable a n b m : ℕ) → DigitsSpan s reply variable a n → DigitsSpan s reply variable b m → (a ≡ b) × (n ≡ m)
   -- of the C interface; its other answers are equations
   pub ragwashin-check : (s : List ℕ) (before x y : List ℤ) (r t : ℕ) → CheckCodes s before r x → CheckCodes s before t y → (r ≡ t) × (x ≡ y)
   pub ragwashin-script : (f : Form) (s before x y : List ℕ) (r t : ℕ) → ScriptCodes f s before r x → ScriptCodes f s before t y → (r ≡ t) × (x ≡ y)

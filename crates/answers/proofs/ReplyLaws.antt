@@ -1,18 +1,16 @@
 -- The answer to a reply from what the reply comes to: unsat is claimed, the refusal's line, or the failing case. Assumes nothing.
-use Prim.Native.Nat.{ℕ, _≤_, _<_}
-use mathlib.Core.Path.{_≡_, refl, sym, ap, subst, _∙_}
+use Prim.Native.Nat.{ℕ}
+use mathlib.Core.Path.{_≡_, ap, subst, _∙_}
 use mathlib.Core.List.{List, [], _++_}
-use mathlib.Core.Option.{Option, none, some}
 use native.Mathlib.Omega.{arith}
 use lib.IntN.{ℤ, pos}
-use lib.ListN.{length, take, drop, replicate}
+use lib.ListN.{length, take, drop}
 use lib.Seq.{take-at, getD-take}
 use Rattle.io.specs.Counts.{Counts}
 use Rattle.lists.specs.Ascii.{ascii}
 use Rattle.refusals.specs.declared.Refusal.{Refusal}
 use Rattle.numbers.specs.Bytes.{Bytes}
 use Rattle.meaning.specs.Cases.{Failing}
-use Rattle.layout.specs.Limits.{mostVariables}
 use Rattle.layout.specs.Parts.{variableCount, ruleIn}
 use Rattle.layout.proofs.PartLaws.{variable-total}
 use Rattle.odometer.proofs.Domains.{case-narrow}
@@ -28,7 +26,7 @@ use Rattle.phrases.specs.Phrases.{refusalLine}
 use Rattle.phrases.specs.Pieces.{Settled, failsLine}
 use Rattle.phrases.proofs.NameValueLaws.{nameValues-are}
 use Rattle.answers.specs.Answers.{failing}
-use Rattle.answers.specs.Replies.{replyLine, WroteReply}
+use Rattle.answers.specs.Replies.{WroteReply}
 use Rattle.answers.proofs.AnswerLaws.{counted}
 
 module _ (s reply : List ℕ) {before after : List ℤ} {a : Replied} (w : RepliesInto s reply before a after) where

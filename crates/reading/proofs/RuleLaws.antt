@@ -16,7 +16,7 @@ use Rattle.numbers.specs.Bytes.{Bytes}
 use Rattle.meaning.specs.declared.Sort.the-variants.{Truth}
 use Rattle.meaning.specs.Rule.{Rule, domainOf}
 use Rattle.kinds.proofs.ClaimLaws.{throughout-parts}
-use Rattle.layout.specs.Limits.{nameStart, blocksFor, variablePlace}
+use Rattle.layout.specs.Limits.{blockBytes, nameStart, mostVariables, blocksFor, variablePlace}
 use Rattle.layout.specs.Checks.{blockRight}
 use Rattle.layout.specs.Starts.{sortAt, startAt, Typed}
 use Rattle.layout.specs.Goal.{treeAt}
@@ -36,7 +36,7 @@ use Rattle.refusals.proofs.SaidLaws.{unless-none, unless-true}
 use Rattle.blocks.specs.Early.{early}
 use Rattle.blocks.proofs.EarlyLaws.{early-none, none-early, length-right}
 use Rattle.header.specs.Header.{header, Counted}
-use Rattle.header.proofs.HeaderLaws.{right-of-none, none-of-right, right-counts}
+use Rattle.header.proofs.HeaderLaws.{right-of-none, none-of-right, right-counts, block-inside}
 use Rattle.records.specs.Names.{Name, VariableKept}
 use Rattle.records.specs.Variables.{variables}
 use Rattle.records.proofs.VariableLaws.{variables-none}
@@ -143,6 +143,10 @@ module _ (s : List ℕ) where
 
     pub accepted-counted : Counted s
     accepted-counted = right-counts s (right-of-none s (passed e .header-passed))
+
+    -- the header lies inside
+    pub accepted-inside : (blockBytes ≤ length s) × (variableCount s ≤ mostVariables)
+    accepted-inside = (block-inside accepted-counted, accepted-counted .few)
 
     pub accepted-sound : Sound (table s) (variableCount s) (nodeCount s)
     accepted-sound = sound (right-of-none s (passed e .header-passed) .some-node) (nodes-right (passed e .nodes-passed))

@@ -1,4 +1,5 @@
 pub mod SaidLaws
 pub mod AfterLaws
 pub mod RowLaws
+pub mod EachLaws
 pub mod BoundLaws

@@ -41,6 +41,11 @@ one-answer {rows} {r} {q} a b = go (decLt (a .rank) (b .rank)) (decLt (b .rank) 
         let e : a .rank ≡ b .rank = omega arith in
         same-rank rows (b .rank) (rw e at (a .applies)) (b .applies)
 
+-- a table has one answer
+pub exactly-once : {rows : List Row} (o q : Option Refusal) → Exactly rows o → Exactly rows q → o ≡ q
+exactly-once none q f g = sym (g .passed .1 (f .passed .0 refl))
+exactly-once (some r) q f g = sym (g .refused r .1 (f .refused r .0 refl))
+
 -- so it is enough that a refusal is by the table, and that silence is
 exactly-by : {rows : List Row} (o : Option Refusal) → ((r : Refusal) → o ≡ some r → Answered rows r) → (o ≡ none → NoneApplies rows) → Exactly rows o
 exactly-by none f g = record {

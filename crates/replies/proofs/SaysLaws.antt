@@ -2,7 +2,6 @@
 use Prim.Native.Nat.{ℕ, zero, suc}
 use mathlib.Core.Path.{_≡_, refl, ap, subst, _∙_}
 use mathlib.Core.Logic.{_↔_, inl, inr}
-use mathlib.Core.Bool.{true}
 use mathlib.Core.List.{List, [], _∷_, map}
 use lib.Dec.{eqb, ltb}
 use native.Mathlib.Omega.{arith}
@@ -12,9 +11,9 @@ use Rattle.lists.specs.Ascii.{ascii}
 use Rattle.smtlib.specs.Characters.{whiteSpace}
 use Rattle.smtlib.specs.Tokens.{digitValue}
 use Rattle.wording.specs.Sixteen.{symbolText}
-use Rattle.grammar.specs.Patterns.{Pattern, end, one, many, either, exact, times, All, Fits}
+use Rattle.grammar.specs.Patterns.{Pattern, end, one, either, exact, times, All, Fits}
 use Rattle.grammar.proofs.FitLaws.{Covered, cover-one, cover-many, cover-same, cover-exact, cover-left, cover-right, cover-both, Some, Into, into-one, into-many, into-exact, into-by, into-both}
-use Rattle.replies.specs.Replies.{hexDigits, binaryDigits, blanks, mark, digitTo, anyValue, pair, pairs, listed, claim, Reply}
+use Rattle.replies.specs.Replies.{hexDigits, binaryDigits, blanks, mark, digitTo, anyValue, pairs, listed, claim, Reply}
 use Rattle.replies.specs.Says.{Numeral, hexadecimal, binary, numberIn, Sixteen, AllSixteen, valued, digits, written, Says, unsat, sat}
 
 -- ---- what a reply spells

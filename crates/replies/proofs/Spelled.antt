@@ -18,7 +18,7 @@ use Rattle.meaning.specs.Rule.{valueIn}
 use Rattle.smtlib.specs.Characters.{whiteSpace, digitChar}
 use Rattle.smtlib.specs.Tokens.{digitValue}
 use Rattle.wording.specs.Sixteen.{hexDigit, hexText, symbolText}
-use Rattle.grammar.specs.Patterns.{Pattern, end, one, exact, Fits}
+use Rattle.grammar.specs.Patterns.{Pattern, end, one, Fits}
 use Rattle.grammar.proofs.FitLaws.{Fit, fit-one, fit-none, fit-exact}
 use Rattle.replies.specs.Replies.{valueBits, blanks, mark, pairs, listed}
 use Rattle.replies.specs.Says.{Numeral, hexadecimal, numberIn, AllSixteen, valued, written, SpellsSetting, SpellsCase}

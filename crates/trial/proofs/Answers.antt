@@ -18,6 +18,7 @@ use Rattle.meaning.specs.Cases.{holds, Failing}
 use Rattle.meaning.proofs.Listed.{in-every}
 use Rattle.layout.specs.Parts.{variableCount, ruleIn}
 use Rattle.layout.proofs.PartLaws.{variable-total}
+use Rattle.refusals.proofs.RowLaws.{exactly-once}
 use Rattle.reading.specs.Cascade.{refusalOf}
 use Rattle.grammar.specs.Begins.{Leaves}
 use Rattle.grammar.specs.Stops.{derive, mayEnd, stops}
@@ -108,11 +109,6 @@ module _ (s reply : List ℕ) where
       go : (o : Option Refusal) → refusalOf s ≡ o → (r : Replied) × Replies s reply r
       go none e = ⊎-elim (λ h. of-says e (reply-says (variableCount s) reply h)) (λ w. (Refused (record { number = 11; place = w .0 }), replies-11 s reply e (w .1))) (fits-or-leaves (variableCount s) reply)
       go (some r) e = (Refused r, replies-sheet s reply e)
-
--- a table has one answer
-pub exactly-once : {rows : List Row} (o q : Option Refusal) → Exactly rows o → Exactly rows q → o ≡ q
-exactly-once none q f g = sym (g .passed .1 (f .passed .0 refl))
-exactly-once (some r) q f g = sym (g .refused r .1 (f .refused r .0 refl))
 
 -- an answer that is no refusal is to an accepted sheet
 pub silent-accepted : (s reply : List ℕ) → {r : Replied} → Replies s reply r → repliedSaid r ≡ none → refusalOf s ≡ none

@@ -10,10 +10,10 @@ use Rattle.refusals.specs.declared.Refusal.{Refusal}
 use Rattle.refusals.proofs.BoundLaws.{Bounded, bounded-row, bounded-then, bounded-each, bounded-answer}
 use Rattle.reading.proofs.Exact.{sheet-exactly}
 use Rattle.reading.proofs.Bounds.{sheet-small}
+use Rattle.reading.proofs.RuleLaws.{accepted-inside}
 use Rattle.trial.specs.declared.Replied.the-variants.{Refused}
 use Rattle.trial.specs.Rows.{Row11, Row12, Row13, replyRows}
 use Rattle.trial.specs.Replies.{Replies}
-use Rattle.trial.proofs.TryLaws.{accepted-inside}
 
 -- what a refusal's number and place can be, for a reply of so many bytes
 pub record Near (bytes number place : ℕ) : Type 0 where

@@ -22,7 +22,8 @@ use Rattle.trial.specs.declared.Replied.{Replied}
 use Rattle.trial.specs.declared.Replied.the-variants.{Unsat, Fails, Refused}
 use Rattle.trial.specs.Replies.{Replies}
 use Rattle.trial.specs.Digits.{DigitsGiven, DigitsPart, DigitsSpan}
-use Rattle.trial.proofs.Answers.{exactly-once, silent-accepted, fails-decided}
+use Rattle.refusals.proofs.RowLaws.{exactly-once}
+use Rattle.trial.proofs.Answers.{silent-accepted, fails-decided}
 
 module _ (s reply : List ℕ) where
   pub fails-accepted : Replies s reply Fails → refusalOf s ≡ none

@@ -1,4 +1,3 @@
-pub mod Each
 pub mod RowLaws
 pub mod Answers
 pub mod TryLaws

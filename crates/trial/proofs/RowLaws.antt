@@ -31,7 +31,7 @@ use Rattle.replies.proofs.Unique.{one-case}
 use Rattle.replies.proofs.SatLaws.{not-both}
 use Rattle.trial.specs.Rows.{Row11, Row12, Row13, replyRows}
 use Rattle.trial.specs.Trying.{isIn, valueRefusal, valuesRefusal, caseRefusal}
-use Rattle.trial.proofs.Each.{each-none, each-lowest}
+use Rattle.refusals.proofs.EachLaws.{each-none, each-lowest}
 
 pub decides-in : (d : Range) (x : ℤ) → Decides (isIn d x) (In d x)
 unfolding isIn

@@ -20,11 +20,10 @@ use Rattle.refusals.proofs.SaidLaws.{unless-true, unless-false}
 use Rattle.meaning.specs.Rule.{domainOf, valueIn}
 use Rattle.meaning.specs.Cases.{holds}
 use Rattle.meaning.proofs.Row.{zeros-begin, zeros-kept}
-use Rattle.layout.specs.Limits.{blockBytes, mostVariables}
+use Rattle.layout.specs.Limits.{mostVariables}
 use Rattle.layout.specs.Parts.{variableCount, variableAt, ruleIn}
-use Rattle.header.proofs.HeaderLaws.{block-inside}
 use Rattle.reading.specs.Cascade.{refusalOf}
-use Rattle.reading.proofs.RuleLaws.{accepted-counted}
+use Rattle.reading.proofs.RuleLaws.{accepted-inside}
 use Rattle.odometer.proofs.Domains.{domain-is}
 use Rattle.evaluator.specs.Standing.{Standing}
 use Rattle.cases.specs.Ready.{CaseFits}
@@ -44,10 +43,6 @@ use Rattle.trial.specs.Trying.{isIn, valuesRefusal, caseRefusal, Numbers
 use Rattle.trial.proofs.Answers.{values-case, replies-sheet, replies-11, replies-unsat, replies-case, replies-fails}
 
 module _ (s : List ℕ) where
-  -- the header lies inside an accepted sheet
-  pub accepted-inside : refusalOf s ≡ none → (blockBytes ≤ length s) × (variableCount s ≤ mostVariables)
-  accepted-inside e = let c = accepted-counted s e in (block-inside c, c .few)
-
   -- ---- 12: the test of variable i's value
   pub value-test : (numbers : List ℤ) {i : ℕ} → i < variableCount s → {d : Range} {x : ℤ} {b : Bool} → d ≡ variableAt s i .domain → x ≡ getD numbers i (pos 0) → b ≡ isIn d x → b ≡ isIn (domainOf (ruleIn s) i) (valueIn (take (variableCount s) numbers) i)
   value-test numbers {i} l ed ex eb = eb ∙ rw (domain-is s i l ed, ex, getD-take (variableCount s) numbers i (pos 0) l)

@@ -15,7 +15,7 @@ use Rattle.trial.specs.declared.Replied.{Replied}
 use Rattle.trial.specs.declared.Replied.the-variants.{Unsat, Fails, Refused}
 use Rattle.trial.specs.Replies.{repliedSaid, Replies, CaseRoom, RepliesInto}
 use Rattle.trial.specs.Digits.{DigitsGiven, DigitsPart, DigitsSpan}
-use Rattle.trial.proofs.Answers.{exactly-once}
+use Rattle.refusals.proofs.RowLaws.{exactly-once}
 use Rattle.trial.proofs.GivenLaws.{given-decided}
 
 pub reply-once : {s reply : List ℕ} {r t : Replied} → Replies s reply r → Replies s reply t → r ≡ t

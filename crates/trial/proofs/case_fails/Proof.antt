@@ -1,6 +1,7 @@
 -- `trial::case_fails` meets its contract: the values' refusal, or by the rule in the case. Assumes nothing.
 use borrow.Author.Needs.{needs}
-use Rattle.trial.proofs.TryLaws.{accepted-inside, standing, by-values, values-passed, by-holding, by-failing}
+use Rattle.reading.proofs.RuleLaws.{accepted-inside}
+use Rattle.trial.proofs.TryLaws.{standing, by-values, values-passed, by-holding, by-failing}
 use Rattle.trial.proofs.case_fails.Statement.{statement}
 use Rattle.trial.proofs.case_fails.Tie as tie
 

@@ -3,7 +3,7 @@ use Prim.Native.Nat.{_<_}
 use native.Mathlib.Omega.{arith}
 use borrow.Author.Needs.{needs}
 use Rattle.layout.specs.Parts.{variableCount}
-use Rattle.trial.proofs.TryLaws.{accepted-inside}
+use Rattle.reading.proofs.RuleLaws.{accepted-inside}
 use Rattle.trial.proofs.GivenLaws.{fails-accepted, given-based, given-span}
 use Rattle.trial.proofs.listed_span.Statement.{statement}
 use Rattle.trial.proofs.listed_span.Tie as tie

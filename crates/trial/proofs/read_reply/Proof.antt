@@ -1,6 +1,7 @@
 -- `trial::read_reply` meets its contract: 11 where the reply leaves the grammar, else as it says. Assumes nothing.
 use borrow.Author.Needs.{needs}
-use Rattle.trial.proofs.TryLaws.{accepted-inside, reached-whole, reached-off, into-11}
+use Rattle.reading.proofs.RuleLaws.{accepted-inside}
+use Rattle.trial.proofs.TryLaws.{reached-whole, reached-off, into-11}
 use Rattle.trial.proofs.read_reply.Statement.{statement}
 use Rattle.trial.proofs.read_reply.Tie as tie
 

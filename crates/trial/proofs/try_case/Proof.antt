@@ -1,6 +1,7 @@
 -- `trial::try_case` meets its contract: the case's refusal, or the case at the front of the room. Assumes nothing.
 use borrow.Author.Needs.{needs}
-use Rattle.trial.proofs.TryLaws.{accepted-inside, row-case, row-ready, row-fits, into-case, into-fails}
+use Rattle.reading.proofs.RuleLaws.{accepted-inside}
+use Rattle.trial.proofs.TryLaws.{row-case, row-ready, row-fits, into-case, into-fails}
 use Rattle.trial.proofs.try_case.Statement.{statement}
 use Rattle.trial.proofs.try_case.Tie as tie
 
