@@ -37,6 +37,7 @@ mod question;
 mod random;
 mod ranges;
 mod replies;
+mod reply_damage;
 mod reply_edges;
 mod reply_met;
 mod reply_questions;
@@ -108,8 +109,8 @@ const GROUPS: [(Part, &str, Make); 46] = [
     (Part::Ask, "ask-refused-sheets", refused_sheets),
     (Part::Replies, "replies-edge-cases", reply_edges::make),
     (Part::Replies, "replies-spelled", replies::spelled),
-    (Part::Replies, "replies-damaged", replies::damaged),
-    (Part::Replies, "replies-every-byte", replies::every_byte),
+    (Part::Replies, "replies-damaged", reply_damage::damaged),
+    (Part::Replies, "replies-every-byte", reply_damage::every_byte),
     (Part::Replies, "replies-long", replies::long),
     (Part::Replies, "replies-unsat", replies::unsat),
     (Part::Replies, "replies-rewritten", reply_rewrites::make),
