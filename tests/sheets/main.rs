@@ -37,6 +37,7 @@ mod question;
 mod random;
 mod ranges;
 mod replies;
+mod reply_damage;
 mod reply_edges;
 mod reply_met;
 mod reply_questions;
@@ -57,7 +58,7 @@ mod variables;
 mod whole_sheet;
 
 use alter::What;
-use met::LONGEST;
+use met::{LONGEST, LONGEST_ASKING};
 use question::Question;
 use random::Random;
 use std::collections::BTreeSet;
@@ -108,8 +109,8 @@ const GROUPS: [(Part, &str, Make); 46] = [
     (Part::Ask, "ask-refused-sheets", refused_sheets),
     (Part::Replies, "replies-edge-cases", reply_edges::make),
     (Part::Replies, "replies-spelled", replies::spelled),
-    (Part::Replies, "replies-damaged", replies::damaged),
-    (Part::Replies, "replies-every-byte", replies::every_byte),
+    (Part::Replies, "replies-damaged", reply_damage::damaged),
+    (Part::Replies, "replies-every-byte", reply_damage::every_byte),
     (Part::Replies, "replies-long", replies::long),
     (Part::Replies, "replies-unsat", replies::unsat),
     (Part::Replies, "replies-rewritten", reply_rewrites::make),
@@ -212,7 +213,7 @@ fn alter(what: What, [trials, got, altered]: [&str; 3], seed: &str) -> io::Resul
 fn all_met(met: &str, parts: &[&str]) {
     let parts: Vec<Part> = parts.iter().map(|part| named_part(part)).collect();
     let required = required::of(&parts);
-    let longest = longest_script(met);
+    let longest = [LONGEST, LONGEST_ASKING].map(|label| (label, longest_script(met, label)));
     let met: BTreeSet<String> =
         met.lines().filter_map(|line| line.split('\t').next()).map(str::to_string).collect();
     tell_first("never met", required.difference(&met));
@@ -221,15 +222,14 @@ fn all_met(met: &str, parts: &[&str]) {
         exit(1);
     }
     println!("{} classes of sheet and kinds of answer, all met", required.len());
-    if let Some(length) = longest {
-        println!("the longest script that was met has {} bytes", length);
+    for (label, length) in longest.iter().filter_map(|(label, length)| Some((label, (*length)?))) {
+        println!("{}: {}", label, length);
     }
 }
 
-/// The length of the longest script, if scripts were met.
-fn longest_script(met: &str) -> Option<u64> {
-    let lengths = met.lines().filter_map(|line| line.strip_prefix(LONGEST)?.trim().parse().ok());
-    lengths.max()
+/// The length of the longest script under this label, if scripts were met.
+fn longest_script(met: &str, label: &str) -> Option<u64> {
+    met.lines().filter_map(|line| line.strip_prefix(label)?.trim().parse().ok()).max()
 }
 
 /// Writes the script of each trial that has one, under the trial's number.
