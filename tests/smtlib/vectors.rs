@@ -35,7 +35,8 @@ fn write(folder: &str, name: &str, text: &str) {
 
 // ---- the solvers
 
-const SOLVERS: [(&str, &[&str]); 2] = [("z3", &["-in"]), ("cvc5", &["--incremental", "--lang", "smt2", "--strict-parsing"])];
+const SOLVERS: [(&str, &[&str]); 2] =
+    [("z3", &["-in"]), ("cvc5", &["--incremental", "--lang", "smt2", "--strict-parsing"])];
 
 /// How the solvers are called.
 fn calls() -> String {
@@ -61,7 +62,11 @@ fn ask(solver: &(&str, &[&str]), script: &[u8]) -> Option<Vec<bool>> {
     let (answers, values) = answered(&words(&out.stdout))?;
     let commands = words(script);
     let count = |name: &str| commands.iter().filter(|w| w.1 == name).count();
-    if out.status.success() && answers.len() == count("check-sat") && values == count("get-value") { Some(answers) } else { None }
+    if out.status.success() && answers.len() == count("check-sat") && values == count("get-value") {
+        Some(answers)
+    } else {
+        None
+    }
 }
 
 /// The answers to check-sat among a solver's words, and how many lists of values there are; none where it says anything else.
@@ -605,8 +610,12 @@ fn rows(cases: &[Case], judged: &[Judged], section: usize) -> [Vec<String>; 3] {
         let text = quoted(&case.script);
         match verdict {
             Judged::Refused => out[0].push(text),
-            Judged::All(met) => out[1].push(format!("({text}, {}[])", met.iter().map(|s| one_setting(s)).collect::<String>())),
-            Judged::Some(tried) => out[2].push(format!("({text}, {}[])", tried.iter().map(one_trial).collect::<String>())),
+            Judged::All(met) => {
+                out[1].push(format!("({text}, {}[])", met.iter().map(|s| one_setting(s)).collect::<String>()))
+            }
+            Judged::Some(tried) => {
+                out[2].push(format!("({text}, {}[])", tried.iter().map(one_trial).collect::<String>()))
+            }
         }
     }
     out
@@ -648,7 +657,11 @@ fn script_data(cases: &[Case], judged: &[Judged]) -> String {
 fn decision_data(cases: &[Case], judged: &[Judged]) -> String {
     let list = |name: &str, section: usize| {
         let [refused, all, _] = rows(cases, judged, section);
-        if SECTIONS[section].read { listed(name, SETTINGS, &all) } else { listed(name, "String", &refused) }
+        if SECTIONS[section].read {
+            listed(name, SETTINGS, &all)
+        } else {
+            listed(name, "String", &refused)
+        }
     };
     format!(
         "{}
