@@ -6,12 +6,11 @@ use borrow.Author.Tests.{ltb-true}
 use lib.Dec.{lit≤}
 use lib.IntN.{ℤ}
 use Rattle.numbers.specs.Two.{enc, dec}
-use Rattle.numbers.proofs.Coding.{enc-dec}
+use Rattle.numbers.proofs.Coding.{enc-dec, decs-encs}
 use Rattle.layout.specs.Parts.{variableCount, ruleIn}
 use Rattle.smtlib.specs.Satisfaction.{Satisfies}
 use Rattle.wording.specs.Form.{sixteen}
 use Rattle.wording.specs.Script.{script}
-use Rattle.forms.proofs.MeansSettings.{decs-encs}
 use Rattle.forms.proofs.MeansMatch.{case-integers}
 use Rattle.replies.specs.Says.{SpellsSetting, SpellsCase}
 use Rattle.replies.proofs.NumberLaws.{Small, setting-small}

@@ -26,7 +26,7 @@ use Rattle.phrases.specs.Phrases.{refusalLine}
 use Rattle.phrases.specs.Pieces.{Settled, failsLine}
 use Rattle.phrases.proofs.NameValueLaws.{nameValues-are}
 use Rattle.answers.specs.Answers.{failing}
-use Rattle.answers.specs.Replies.{WroteReply}
+use Rattle.answers.specs.Replies.{replyLine, WroteReply}
 use Rattle.answers.proofs.AnswerLaws.{counted}
 
 module _ (s reply : List ℕ) {before after : List ℤ} {a : Replied} (w : RepliesInto s reply before a after) where
@@ -70,26 +70,12 @@ module _ (s reply : List ℕ) {before after : List ℤ} {a : Replied} (w : Repli
       counted g,
     )
 
+    -- what spells no case
+    reply-other : {b : Replied} → (b ≡ Fails → ⊥) → a ≡ b → Wrote (replyLine (ruleIn s) [] b) x y 0 n → WroteReply s reply x y n × Counts n y
+    reply-other {b} f d g = (record { answer = b; replies = subst (Replies s reply) d (w .answer); case = []; spelled = λ e. absurd (f e); wrote = g }, counted g)
+
     pub reply-unsat : a ≡ Unsat → Wrote (ascii "unsat claimed\n") x y 0 n → WroteReply s reply x y n × Counts n y
-    reply-unsat d g = (
-      record {
-        answer = Unsat;
-        replies = subst (Replies s reply) d (w .answer);
-        case = [];
-        spelled = λ e. absurd (let z : _≡_ {A = ℕ} 0 1 = cc in omega arith);
-        wrote = g;
-      },
-      counted g,
-    )
+    reply-unsat = reply-other (λ e. let z : _≡_ {A = ℕ} 0 1 = cc in omega arith)
 
     pub reply-refused : {r : Refusal} → a ≡ Refused r → Wrote (refusalLine r) x y 0 n → WroteReply s reply x y n × Counts n y
-    reply-refused {r} d g = (
-      record {
-        answer = Refused r;
-        replies = subst (Replies s reply) d (w .answer);
-        case = [];
-        spelled = λ e. absurd (let z : _≡_ {A = ℕ} 0 1 = cc in omega arith);
-        wrote = g;
-      },
-      counted g,
-    )
+    reply-refused = reply-other (λ e. let z : _≡_ {A = ℕ} 0 1 = cc in omega arith)

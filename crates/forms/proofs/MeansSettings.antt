@@ -7,7 +7,7 @@ use native.Mathlib.Omega.{arith}
 use lib.ListN.{length, getD, length-map}
 use lib.IntN.{ℤ}
 use Rattle.numbers.specs.Two.{enc, dec, Within}
-use Rattle.numbers.proofs.Coding.{enc-lt, dec-enc, dec-within, enc-dec}
+use Rattle.numbers.proofs.Coding.{enc-lt, dec-within, enc-dec, decs-encs}
 use Rattle.meaning.specs.Rule.{Variable, valueIn}
 use Rattle.smtlib.specs.Values.{bits}
 use Rattle.smtlib.specs.Settings.{Assigns, environment}
@@ -31,12 +31,8 @@ integers-first {w} {v} {z} {c} h k = record { all = ap suc (k .all); each = by }
 
 -- ---- no two such lists have the same setting
 module _ {w : ℕ} (one : 1 ≤ w) where
-  pub decs-encs : (c : List ℤ) → ((i : ℕ) → i < length c → Within w (valueIn c i)) → map (dec w) (map (enc w) c) ≡ c
-  decs-encs [] h = refl
-  decs-encs (z ∷ c) h = ap₂ _∷_ (dec-enc w one z (h 0 (omega arith))) (decs-encs c (λ i l. h (suc i) (omega arith)))
-
   pub encs-inj : {v : ℕ} {b c : List ℤ} → Integers w v b → Integers w v c → map (enc w) b ≡ map (enc w) c → b ≡ c
-  encs-inj {v} {b} {c} h k e = sym (decs-encs b (h .each)) ∙ ap (map (dec w)) e ∙ decs-encs c (k .each)
+  encs-inj {v} {b} {c} h k e = sym (decs-encs one b (h .each)) ∙ ap (map (dec w)) e ∙ decs-encs one c (k .each)
 
 module _ {f : Form} {m : ℕ} (form : Readable f m) where
   -- the width, at least 1

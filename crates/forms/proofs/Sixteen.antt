@@ -1,5 +1,5 @@
 -- Document 01's form can be read, with models and without: constants in hexadecimal at 16 bits, variables' numbers below 100. Assumes nothing.
-use Prim.Native.Nat.{ℕ, _+_, _-_, _*_, _/_, _%_, _<_}
+use Prim.Native.Nat.{ℕ, _+_, _-_, _/_, _%_, _<_}
 use mathlib.Core.Path.{_≡_, refl, sym, ap, _∙_}
 use mathlib.Core.Bool.{Bool, true, false}
 use mathlib.Core.List.{List, [], _∷_, map}
@@ -20,7 +20,7 @@ use Rattle.smtlib.specs.Theory.{functions, otherNames, theoryName}
 use Rattle.smtlib.specs.Terms.{Environment, numberOf, value}
 use Rattle.smtlib.specs.Scripts.{solverName}
 use Rattle.smtlib.specs.Spelling.{digitByte, spelling, Spelled}
-use Rattle.smtlib.proofs.TermLaws.{value-hexadecimal}
+use Rattle.smtlib.proofs.TermLaws.{fourDigits, four-number, value-hexadecimal}
 use Rattle.smtlib.proofs.Spelling.{spelled-symbol, spelled-hexadecimal}
 use Rattle.wording.specs.Sixteen.{hexDigit, hexText, literal, symbolText}
 use Rattle.wording.specs.Form.{sixteen}
@@ -28,20 +28,8 @@ use Rattle.forms.specs.Readable.{Texts, Readable}
 
 -- ---- a constant
 
--- its four digits give its number
-abbrev hexDigits : ℕ → List ℕ
-hexDigits x = x / 4096 % 16 ∷ x / 256 % 16 ∷ x / 16 % 16 ∷ x % 16 ∷ []
-
-hex-number : (x : ℕ) → x < 65536 → numberOf 16 (hexDigits x) ≡ x
-hex-number x h =
-    let a : 0 * 16 + x / 4096 % 16 ≡ x / 4096 = omega arith in
-    let b : x / 4096 * 16 + x / 256 % 16 ≡ x / 256 = omega arith in
-    let c : x / 256 * 16 + x / 16 % 16 ≡ x / 16 = omega arith in
-    let d : x / 16 * 16 + x % 16 ≡ x = omega arith in
-    rw (a, b, c, d)
-
 unfoldable pub constant16 : ℤ → Atom
-constant16 z = hexadecimal (hexDigits (enc 16 z))
+constant16 z = hexadecimal (fourDigits (enc 16 z))
 
 pub literal-spelling : (z : ℤ) → literal z ≡ spelling (constant16 z)
 unfolding literal hexText hexDigit constant16 digitByte
@@ -55,7 +43,7 @@ constant-spelled z =
 
 constant-value : (env : Environment) (z : ℤ) → value env (atom (constant16 z)) ≡ bits 16 (enc 16 z)
 unfolding constant16
-constant-value env z = value-hexadecimal env (hexDigits (enc 16 z)) ∙ ap (bits 16) (hex-number (enc 16 z) (enc16-lt z))
+constant-value env z = value-hexadecimal env (fourDigits (enc 16 z)) ∙ ap (bits 16) (four-number (enc 16 z) (enc16-lt z))
 
 -- ---- a variable
 digit-char : (d : ℕ) → d < 10 → symbolChar (48 + d) ≡ true

@@ -1,11 +1,13 @@
 -- Two's complement at any width: the encoding is the residue, and what stands within the width is told apart by it. Assumes nothing.
-use mathlib.Core.Path.{_≡_, sym, ap, _∙_}
+use mathlib.Core.Path.{_≡_, refl, sym, ap, ap₂, _∙_}
+use mathlib.Core.List.{List, [], _∷_, map}
 use Prim.Native.Nat.{ℕ, zero, suc, _+_, _-_, _/_, _%_, _^_, _≤_, _<_}
 use native.Mathlib.Nat.{mod-add-div', mod-lt, mod-eq-of-lt, two-pow-succ}
 use native.Mathlib.Decide.{decLt}
 use native.Mathlib.Omega.{arith}
 use lib.Pow.{pow-pos}
 use lib.IntN.{ℤ, pos, negsuc}
+use lib.ListN.{length, getD}
 use borrow.Author.Tests.{lt-ltb, le-ltb}
 use Rattle.numbers.specs.Two.{enc, dec, Within}
 use Rattle.numbers.proofs.Zed.{up, dn, zed, side, pos-ud, negsuc-ud, neg-ud}
@@ -96,3 +98,8 @@ module _ (w : ℕ) (h : 1 ≤ w) where
 
   pub enc-inj : {x y : ℤ} → Within w x → Within w y → enc w x ≡ enc w y → x ≡ y
   enc-inj {x} {y} f g e = sym (dec-enc x f) ∙ ap (dec w) e ∙ dec-enc y g
+
+-- ---- a list of integers within the width, from their numbers
+pub decs-encs : {w : ℕ} → 1 ≤ w → (c : List ℤ) → ((i : ℕ) → i < length c → Within w (getD c i (pos 0))) → map (dec w) (map (enc w) c) ≡ c
+decs-encs one [] h = refl
+decs-encs {w} one (z ∷ c) h = ap₂ _∷_ (dec-enc w one z (h 0 (omega arith))) (decs-encs one c (λ i l. h (suc i) (omega arith)))

@@ -1,5 +1,5 @@
 -- Every setting of numbers below 2 ^ 16, and every case of integers of 16 bits, is spelled by some reply: its values as the script writes constants, a blank only between two words. Assumes nothing.
-use Prim.Native.Nat.{ℕ, suc, _+_, _*_, _/_, _%_, _^_, _<_}
+use Prim.Native.Nat.{ℕ, suc, _/_, _%_, _<_}
 use mathlib.Core.Path.{_≡_, refl, ap₂, subst}
 use mathlib.Core.Logic.{_↔_}
 use mathlib.Core.Bool.{true}
@@ -12,11 +12,12 @@ use borrow.Author.Tests.{ltb-true, lt-ltb}
 use Rattle.lists.specs.Ascii.{ascii}
 use Rattle.lists.specs.Places.{allBelow}
 use Rattle.lists.proofs.TestLaws.{all-true}
-use Rattle.numbers.specs.Two.{enc, dec, Within}
-use Rattle.numbers.proofs.Coding.{enc-lt, dec-enc}
+use Rattle.numbers.specs.Two.{enc, Within}
+use Rattle.numbers.proofs.Coding.{enc-lt, decs-encs}
 use Rattle.meaning.specs.Rule.{valueIn}
 use Rattle.smtlib.specs.Characters.{whiteSpace, digitChar}
 use Rattle.smtlib.specs.Tokens.{digitValue}
+use Rattle.smtlib.proofs.TermLaws.{fourDigits, four-number}
 use Rattle.wording.specs.Sixteen.{hexDigit, hexText, symbolText}
 use Rattle.grammar.specs.Patterns.{Pattern, end, one, Fits}
 use Rattle.grammar.proofs.FitLaws.{Fit, fit-one, fit-none, fit-exact}
@@ -42,19 +43,11 @@ replyText t = ascii "sat" ++ listText t
 -- ---- the numerals
 
 abbrev numeralOf : ℕ → Numeral
-numeralOf x = hexadecimal (x / 4096 % 16 ∷ x / 256 % 16 ∷ x / 16 % 16 ∷ x % 16 ∷ [])
-
-number-of : (x : ℕ) → x < 2 ^ valueBits → numberIn (numeralOf x) ≡ x
-number-of x h =
-    let a : 0 * 16 + x / 4096 % 16 ≡ x / 4096 = omega arith in
-    let b : x / 4096 * 16 + x / 256 % 16 ≡ x / 256 = omega arith in
-    let c : x / 256 * 16 + x / 16 % 16 ≡ x / 16 = omega arith in
-    let d : x / 16 * 16 + x % 16 ≡ x = omega arith in
-    rw (a, b, c, d)
+numeralOf x = hexadecimal (fourDigits x)
 
 numbers-of : (t : List ℕ) → Small t → map numberIn (map numeralOf t) ≡ t
 numbers-of [] a = refl
-numbers-of (x ∷ t) a = ap₂ _∷_ (number-of x (ltb-true _ _ (a .0))) (numbers-of t (a .1))
+numbers-of (x ∷ t) a = ap₂ _∷_ (four-number x (ltb-true _ _ (a .0))) (numbers-of t (a .1))
 
 digit-low : (x : ℕ) → x % 16 < 16
 digit-low x = omega arith
@@ -110,10 +103,6 @@ codes-small : (c : List ℤ) → Small (map (enc valueBits) c)
 codes-small [] = tt
 codes-small (z ∷ c) = (lt-ltb _ _ (enc-lt valueBits z), codes-small c)
 
-decoded : (c : List ℤ) → ((i : ℕ) → i < length c → Within valueBits (valueIn c i)) → map (dec valueBits) (map (enc valueBits) c) ≡ c
-decoded [] h = refl
-decoded (z ∷ c) h = ap₂ _∷_ (dec-enc valueBits (omega arith) z (h 0 (omega arith))) (decoded c (λ i l. h (suc i) (omega arith)))
-
 -- every case of integers of 16 bits is spelled
 pub spells-case : (c : List ℤ) → ((i : ℕ) → i < length c → Within valueBits (valueIn c i)) → (s : List ℕ) × SpellsCase (length c) s c
 spells-case c h =
@@ -122,6 +111,6 @@ spells-case c h =
       record {
         setting = t;
         spelled = subst (λ (n : ℕ). SpellsSetting n (replyText t) t) (length-map c (enc valueBits)) (spells-setting t (codes-small c));
-        case = decoded c h;
+        case = decs-encs (omega arith) c h;
       },
     )

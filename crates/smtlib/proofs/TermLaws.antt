@@ -1,9 +1,10 @@
--- The values of atoms and applications, by the signature of the function and the sorts of its arguments. Assumes nothing.
+-- The values of atoms and applications, and of four digits, by the signature of the function and the sorts of its arguments. Assumes nothing.
 use mathlib.Core.Path.{_≡_, refl, ap, _∙_}
 use mathlib.Core.Bool.{Bool, true, false}
 use mathlib.Core.List.{List, [], _∷_}
 use mathlib.Core.Option.{none, some}
-use Prim.Native.Nat.{ℕ, _*_}
+use Prim.Native.Nat.{ℕ, _+_, _*_, _/_, _%_, _<_}
+use native.Mathlib.Omega.{arith}
 use lib.ListN.{length}
 use borrow.Author.Tests.{eq-eqb}
 use Rattle.smtlib.specs.Tokens.{symbol, hexadecimal, binary}
@@ -12,7 +13,19 @@ use Rattle.smtlib.specs.Values.{Sort, bool, bitVec, Val, Value, truth, b
 use Rattle.smtlib.specs.Theory.{Attribute, two, left-assoc, right-assoc, chained, pairs, Signature, constant, truths1, truths2, relation, choice, vectors1, vectors2, order, Meaning, byAttribute, function}
 use Rattle.smtlib.specs.Terms.{Environment, numberOf, atomValue, value}
 
--- (n a), (n a b), (n a b c)
+-- ---- a number of 16 bits by four hexadecimal digits
+abbrev pub fourDigits : ℕ → List ℕ
+fourDigits x = x / 4096 % 16 ∷ x / 256 % 16 ∷ x / 16 % 16 ∷ x % 16 ∷ []
+
+pub four-number : (x : ℕ) → x < 65536 → numberOf 16 (fourDigits x) ≡ x
+four-number x h =
+    let a : 0 * 16 + x / 4096 % 16 ≡ x / 4096 = omega arith in
+    let b : x / 4096 * 16 + x / 256 % 16 ≡ x / 256 = omega arith in
+    let c : x / 256 * 16 + x / 16 % 16 ≡ x / 16 = omega arith in
+    let d : x / 16 * 16 + x % 16 ≡ x = omega arith in
+    rw (a, b, c, d)
+
+-- ---- (n a), (n a b), (n a b c)
 abbrev pub call1 : List ℕ → Sexp → Sexp
 call1 n a = cons (atom (symbol n)) (cons a nil)
 

@@ -11,7 +11,6 @@ use lib.IntN.{ℤ}
 use lib.ListN.{length}
 use Rattle.lists.proofs.FirstLaws.{neither, otherwise-none, first-none, none-first}
 use Rattle.refusals.specs.declared.Refusal.{Refusal}
-use Rattle.refusals.specs.Rows.{Row, Exactly}
 use Rattle.refusals.proofs.SaidLaws.{unless-none, unless-true}
 use Rattle.meaning.specs.Rule.{Case, domainOf, valueIn}
 use Rattle.meaning.specs.Cases.{holds, Failing}
