@@ -1,0 +1,95 @@
+// Times two sides in one process, the library's and the ordinary one, slice by slice in turn. A slice takes 25 ms or
+// less; of each side the quickest slice counts, since the machine may be busy with other work.
+
+use std::fmt::{Display, Formatter, Result};
+use std::time::{Duration, Instant};
+
+pub const SLICE: Duration = Duration::from_millis(25);
+
+/// How many rounds, and how many slices in each.
+pub struct Extent {
+    rounds: usize,
+    slices: usize,
+}
+
+const WHOLE: Extent = Extent { rounds: 7, slices: 20 };
+const ONCE: Extent = Extent { rounds: 1, slices: 1 };
+
+/// Whether the program is asked to show that it works, and to measure nothing.
+pub fn once() -> bool {
+    std::env::args().nth(1).as_deref() == Some("once")
+}
+
+pub fn extent() -> Extent {
+    if once() {
+        ONCE
+    } else {
+        WHOLE
+    }
+}
+
+impl Display for Extent {
+    fn fmt(&self, to: &mut Formatter) -> Result {
+        let (rounds, slices) = (self.rounds, self.slices);
+        write!(
+            to,
+            "slices of at most {} ms, {} rounds of {} on each side in turn",
+            SLICE.as_millis(),
+            rounds,
+            slices
+        )
+    }
+}
+
+/// What a call of each side takes at the quickest, in ns, and the rounds' lowest and highest ratio.
+pub struct Sides {
+    pub library: f64,
+    pub ordinary: f64,
+    lowest: f64,
+    highest: f64,
+}
+
+pub const HEADS: &str = "ratio   lowest and highest of the rounds";
+
+impl Display for Sides {
+    fn fmt(&self, to: &mut Formatter) -> Result {
+        write!(to, "{:5.2}   {:.2} to {:.2}", self.library / self.ordinary, self.lowest, self.highest)
+    }
+}
+
+/// How long so many calls take.
+pub fn time(call: &impl Fn(), calls: u32) -> Duration {
+    let from = Instant::now();
+    for _ in 0..calls {
+        call();
+    }
+    from.elapsed()
+}
+
+/// The quickest of three calls.
+pub fn quickest(call: &impl Fn()) -> Duration {
+    (0..3).map(|_| time(call, 1)).min().expect("a call")
+}
+
+/// What a call of each side takes in the quickest slice of a round, in ns.
+fn round(library: &impl Fn(), ordinary: &impl Fn(), calls: u32, slices: usize) -> (f64, f64) {
+    let turns = (0..slices).map(|_| (time(library, calls), time(ordinary, calls)));
+    let (library, ordinary) =
+        turns.reduce(|best, turn| (best.0.min(turn.0), best.1.min(turn.1))).expect("a slice");
+    let each = |slice: Duration| slice.as_nanos() as f64 / f64::from(calls);
+    (each(library), each(ordinary))
+}
+
+pub fn compare(library: impl Fn(), ordinary: impl Fn()) -> Sides {
+    let Extent { rounds, slices } = extent();
+    let slower = quickest(&library).max(quickest(&ordinary)).as_nanos().max(1);
+    let calls = (SLICE.as_nanos() / 2 / slower).clamp(1, 1_000_000) as u32;
+    let rounds: Vec<(f64, f64)> = (0..rounds).map(|_| round(&library, &ordinary, calls, slices)).collect();
+    let ratios = || rounds.iter().map(|round| round.0 / round.1);
+    Sides {
+        library: rounds.iter().map(|round| round.0).fold(f64::INFINITY, f64::min),
+        ordinary: rounds.iter().map(|round| round.1).fold(f64::INFINITY, f64::min),
+        lowest: ratios().fold(f64::INFINITY, f64::min),
+        highest: ratios().fold(0.0, f64::max),
+    }
+}
