@@ -1,15 +1,15 @@
 -- Laws of a block's check: one more byte, and one changed byte. Assumes nothing.
-use mathlib.Core.Path.{_≡_, _∙_, ap}
+use mathlib.Core.Path.{_≡_, refl, _∙_, ap}
 use mathlib.Core.List.{List, [], _∷_, _++_}
-use Prim.Native.Nat.{ℕ, zero, suc, _+_, _*_, _%_, _≤_, _<_}
-use native.Mathlib.Nat.{add-assoc, add-suc, suc-add, add-zero, zero-add, mod-add-mod, mul-le-mul, le-of-suc-le-suc, not-suc-le-zero}
+use Prim.Native.Nat.{ℕ, zero, suc, _+_, _*_, _/_, _^_, _≤_, _<_}
+use native.Mathlib.Nat.{add-assoc, add-suc, suc-add, add-zero, zero-add, mul-le-mul, le-of-suc-le-suc, not-suc-le-zero}
 use native.Mathlib.Numerals.{add-one, one-add}
 use native.Mathlib.Omega.{arith}
-use lib.ListN.{length, take, set}
+use lib.ListN.{length, take, set, replicate}
 use lib.Seq.{take-suc, length-take-le, take-all}
-use Rattle.numbers.specs.Bytes.{byteLimit, mostByte, byteAt}
-use Rattle.layout.specs.Limits.{contentBytes, modulus}
-use Rattle.layout.specs.Checks.{weighted, checkOf}
+use Rattle.numbers.specs.Bytes.{byteLimit, mostByte, byteAt, Bytes}
+use Rattle.layout.specs.Limits.{contentBytes}
+use Rattle.layout.specs.Checks.{weighted}
 
 pub weighted-append : (w : ℕ) (xs ys : List ℕ) → weighted w (xs ++ ys) ≡ weighted w xs + weighted (w + length xs) ys
 unfolding weighted
@@ -31,21 +31,34 @@ weighted-set w (x ∷ l) (suc i) b h =
     let ih = rw suc-add at (weighted-set (suc w) l i b (le-of-suc-le-suc h)) in
     rw add-suc (omega (arith, ih))
 
-pub check-start : (k : ℕ) → (k + 1) % modulus ≡ checkOf k []
-unfolding checkOf weighted
-check-start k = simp add-zero
+-- no content of so many bytes has a greater sum than one whose bytes are all 255, however few of its bytes are summed
+pub weighted-most : (w : ℕ) (l : List ℕ) (i n : ℕ) → Bytes l → i ≤ n → weighted w (take i l) ≤ weighted w (replicate n mostByte)
+unfolding weighted
+weighted-most w l zero n h le = omega arith
+weighted-most w [] (suc i) n h le = omega arith
+weighted-most w (x ∷ l) (suc i) zero h le = absurd (not-suc-le-zero le)
+weighted-most w (x ∷ l) (suc i) (suc n) h le =
+    let more : w * x ≤ w * mostByte = mul-le-mul {n₂ = w} {m₂ = mostByte} (omega arith) (omega (arith, h 0)) in
+    omega (arith, more, weighted-most (suc w) l i n (λ j. h (suc j)) (le-of-suc-le-suc le))
 
--- from the check of the first i bytes and byte i, weighed, to the check of one byte more
-pub check-next : (k : ℕ) (l : List ℕ) {i sum more : ℕ} → sum ≡ checkOf k (take i l) → more ≡ (i + 1) * byteAt l i → i < length l → (sum + more) % modulus ≡ checkOf k (take (i + 1) l)
-unfolding checkOf
-check-next k l {i} e f h = rw (e, f, weighted-take l i h, mod-add-mod, ← add-assoc (k + 1))
+-- 255 times 1 + 2 + ... + 510
+pub greatest-sum : weighted 1 (replicate contentBytes mostByte) ≡ mostByte * (contentBytes * (contentBytes + 1) / 2)
+unfolding weighted
+greatest-sum = refl
 
-pub check-end : (k : ℕ) (l : List ℕ) {i sum : ℕ} → sum ≡ checkOf k (take i l) → length l ≤ i → sum ≡ checkOf k l
-check-end k l {i} e h = e ∙ ap (checkOf k) (take-all i l h)
+pub product-fits : {i b : ℕ} → i < contentBytes → b < byteLimit → (i + 1) * b < 2 ^ 32
+product-fits {i} {b} hi hb =
+    let most : (i + 1) * b ≤ contentBytes * mostByte = mul-le-mul {n₂ = contentBytes} {m₂ = mostByte} (omega arith) (omega arith) in
+    omega arith
 
-pub check-lt : (k : ℕ) (l : List ℕ) → checkOf k l < modulus
-unfolding checkOf
-check-lt k l = omega arith
+-- from the sum of the first i bytes and byte i, weighed, to the sum of one byte more, which fits
+module _ (l : List ℕ) {i sum more : ℕ} (e : sum ≡ weighted 1 (take i l)) (f : more ≡ (i + 1) * byteAt l i) (h : i < length l) where
+  pub sum-next : sum + more ≡ weighted 1 (take (i + 1) l)
+  sum-next = rw (e, f, weighted-take l i h)
 
-pub weighed-le : {i b : ℕ} → i < contentBytes → b < byteLimit → (i + 1) * b ≤ contentBytes * mostByte
-weighed-le hi hb = mul-le-mul {n₂ = contentBytes} {m₂ = mostByte} (omega arith) (omega arith)
+  pub sum-fits : Bytes l → length l ≤ contentBytes → sum + more < 2 ^ 32
+  sum-fits bytes short =
+      omega (arith, sum-next, greatest-sum, weighted-most 1 l (i + 1) contentBytes bytes (omega arith))
+
+pub sum-end : (l : List ℕ) {i sum : ℕ} → sum ≡ weighted 1 (take i l) → length l ≤ i → sum ≡ weighted 1 l
+sum-end l {i} e h = e ∙ ap (weighted 1) (take-all i l h)

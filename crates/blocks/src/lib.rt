@@ -2,9 +2,9 @@
 ghost use mathlib.Core.Path.{_≡_};
 ghost use Prim.Native.Nat.{_+_, _*_, _≤_, _<_, _^_};
 ghost use lib.ListN.{length};
-ghost use Rattle.numbers.specs.Bytes.{mostByte, byteAt};
+ghost use Rattle.numbers.specs.Bytes.{byteAt};
 ghost use Rattle.layout.specs.Limits.{blockBytes, contentBytes};
-ghost use Rattle.layout.specs.Checks.{checkOf, blockRight, Inside};
+ghost use Rattle.layout.specs.Checks.{weighted, checkOf, blockRight, Inside};
 ghost use Rattle.refusals.specs.Said.{saidOf};
 ghost use Rattle.blocks.specs.Block.{BlockPart};
 ghost use Rattle.blocks.specs.Early.{checksRefusal, early};
@@ -16,11 +16,25 @@ use refusals::Reading;
 use refusals::Refusal;
 
 // A content byte times its weight.
-fn weighed(content: &[u8], i: usize) -> usize
+fn weighed(content: &[u8], i: usize) -> u32
     requires { ⌜ (i < length (now content)) × (i < contentBytes) ⌝ }
-    ensures { λ r. ⌜ (r ≡ (i + 1) * byteAt (now (content .entry)) i) × (r ≤ contentBytes * mostByte) ⌝ }
+    ensures { λ r. ⌜ r ≡ (i + 1) * byteAt (now (content .entry)) i ⌝ }
 {
-    (i + 1) * (content[i] as usize)
+    (i as u32 + 1) * (content[i] as u32)
+}
+
+// The sum of the bytes of a content, each times its weight: 32 bits hold it, and leave more in a vector than 64.
+fn weighed_sum(content: &[u8]) -> u32
+    requires { ⌜ length (now content) ≤ contentBytes ⌝ }
+    ensures { λ r. ⌜ r ≡ weighted 1 (now (content .entry)) ⌝ }
+{
+    let mut sum: u32 = 0;
+    let mut i = 0;
+    while i < content.len() {
+        sum += weighed(content, i);
+        i += 1;
+    }
+    sum
 }
 
 // The check of block k with this content.
@@ -28,13 +42,7 @@ fn check_of(k: usize, content: &[u8]) -> usize
     requires { ⌜ (blockBytes * k < 2 ^ 64) × (length (now content) ≤ contentBytes) ⌝ }
     ensures { λ r. ⌜ r ≡ checkOf k (now (content .entry)) ⌝ }
 {
-    let mut sum: usize = (k + 1) % MODULUS;
-    let mut i = 0;
-    while i < content.len() {
-        sum = (sum + weighed(content, i)) % MODULUS;
-        i += 1;
-    }
-    sum
+    (k + 1 + weighed_sum(content) as usize) % MODULUS
 }
 
 // Whether the check of a block that is wholly inside the bytes is right.
