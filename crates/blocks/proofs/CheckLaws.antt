@@ -51,14 +51,15 @@ product-fits {i} {b} hi hb =
     let most : (i + 1) * b ≤ contentBytes * mostByte = mul-le-mul {n₂ = contentBytes} {m₂ = mostByte} (omega arith) (omega arith) in
     omega arith
 
--- from the sum of the first i bytes and byte i, weighed, to the sum of one byte more, which fits
-module _ (l : List ℕ) {i sum more : ℕ} (e : sum ≡ weighted 1 (take i l)) (f : more ≡ (i + 1) * byteAt l i) (h : i < length l) where
-  pub sum-next : sum + more ≡ weighted 1 (take (i + 1) l)
-  sum-next = rw (e, f, weighted-take l i h)
+module _ (l : List ℕ) (i : ℕ) where
+  -- the sum of the first i bytes fits
+  pub sum-fits : {sum : ℕ} → sum ≡ weighted 1 (take i l) → Bytes l → i ≤ contentBytes → sum < 2 ^ 32
+  sum-fits e bytes h = omega (arith, e, greatest-sum, weighted-most 1 l i contentBytes bytes h)
 
-  pub sum-fits : Bytes l → length l ≤ contentBytes → sum + more < 2 ^ 32
-  sum-fits bytes short =
-      omega (arith, sum-next, greatest-sum, weighted-most 1 l (i + 1) contentBytes bytes (omega arith))
+  -- and is that of all where there are no more
+  pub sum-whole : {sum : ℕ} → sum ≡ weighted 1 (take i l) → length l ≤ i → sum ≡ weighted 1 l
+  sum-whole e h = e ∙ ap (weighted 1) (take-all i l h)
 
-pub sum-end : (l : List ℕ) {i sum : ℕ} → sum ≡ weighted 1 (take i l) → length l ≤ i → sum ≡ weighted 1 l
-sum-end l {i} e h = e ∙ ap (weighted 1) (take-all i l h)
+  -- with byte i, weighed, it is the sum of one byte more
+  pub sum-next : (before sum : ℕ) {more : ℕ} → before + sum ≡ weighted 1 (take i l) → more ≡ (i + 1) * byteAt l i → i < length l → before + (sum + more) ≡ weighted 1 (take (i + 1) l)
+  sum-next before sum e f h = rw (← add-assoc before, e, f, weighted-take l i h)
