@@ -1,14 +1,17 @@
-// Times the loading of a sheet, the check of its blocks alone and read as a whole, beside a plain loop over the same
-// bytes, in ns per call. With the word 'once' it shows that it works, and measures nothing.
+// Times the loading of a sheet, in ns per call: the checks of its blocks, and read as a whole, beside plain loops over
+// the same bytes that work out the checks, and read beside an ordinary reader too. Then where read's time goes. With
+// the word 'once' it shows that it works, and measures nothing.
 
+mod checks;
 #[path = "../tests/layout.rs"]
 mod layout;
 #[path = "../tests/limits.rs"]
 mod limits;
+mod reader;
 mod rules;
 mod turns;
 
-use layout::number_at;
+use layout::*;
 use limits::*;
 use std::hint::black_box;
 
@@ -20,23 +23,35 @@ extern "C" {
 /// Rules of so many nodes take sheets of 1,024 and of 4,608 bytes.
 const NODES: [usize; 2] = [31, 247];
 
+type Side = fn(&[u8]);
+
 fn main() {
+    let sheets = NODES.map(|nodes| rules::sheet(&rules::rule(nodes), 1_000));
     println!("loading, ns per call: {}", turns::extent());
-    println!("what      bytes     library  plain loop   {}", turns::HEADS);
-    for nodes in NODES {
-        let sheet = rules::sheet(&rules::rule(nodes), 1_000);
-        tell("blocks", &sheet, blocks);
-        tell("read", &sheet, read);
+    println!("what     bytes    library   beside                        {}", turns::HEADS);
+    for sheet in &sheets {
+        compare("blocks", sheet, blocks, "a loop in 32 bits", loop_in_32_bits);
+        compare("blocks", sheet, blocks, "a loop in 64 bits", loop_in_64_bits);
+        compare("read", sheet, read, "a loop in 32 bits", loop_in_32_bits);
+        compare("read", sheet, read, "a loop in 64 bits", loop_in_64_bits);
+        compare("read", sheet, read, "an ordinary reader", ordinary_read);
     }
+    println!("of read, ns  bytes {}", STAGES.map(|stage| format!("{:>17}", stage.name)).concat());
+    sheets.iter().for_each(|sheet| tell_stages(sheet));
 }
 
-fn tell(what: &str, sheet: &[u8], library: fn(&[u8])) {
-    let sides = turns::compare(|| library(sheet), || plain_loop(sheet));
-    println!("{:6} {:8} {:8.1} ns {:8.1} ns   {}", what, sheet.len(), sides.library, sides.ordinary, sides);
+fn compare(what: &str, sheet: &[u8], library: Side, beside: &str, ordinary: Side) {
+    let sides = turns::compare(|| library(sheet), || ordinary(sheet));
+    let (bytes, ours, theirs) = (sheet.len(), sides.library, sides.ordinary);
+    println!("{:6} {:7} {:10.1}   {:18} {:8.1}   {}", what, bytes, ours, beside, theirs, sides);
+}
+
+fn said(sheet: &[u8]) -> u64 {
+    unsafe { ragwashin_read(sheet.as_ptr(), sheet.len()) }
 }
 
 fn read(sheet: &[u8]) {
-    assert_eq!(unsafe { ragwashin_read(sheet.as_ptr(), sheet.len()) }, 0, "the sheet is accepted");
+    assert_eq!(said(sheet), 0, "the sheet is accepted");
 }
 
 /// One call for each block.
@@ -47,21 +62,43 @@ fn blocks(sheet: &[u8]) {
     }
 }
 
-/// The checks as one would write them in Rust. The compiler may not see that it is always the same sheet.
-fn plain_loop(sheet: &[u8]) {
-    for (k, block) in black_box(sheet).chunks_exact(BLOCK).enumerate() {
-        assert_eq!(
-            plain_check(k as u32, &block[..CONTENT]),
-            number_at(block, CONTENT).into(),
-            "the check is right"
-        );
-    }
+// The compiler may not see that it is always the same sheet.
+
+fn loop_in_32_bits(sheet: &[u8]) {
+    assert_eq!(checks::in_32_bits(black_box(sheet)), None, "the checks are right");
 }
 
-fn plain_check(k: u32, content: &[u8]) -> u32 {
-    let mut sum = k + 1;
-    for (i, &byte) in content.iter().enumerate() {
-        sum += (i as u32 + 1) * u32::from(byte);
-    }
-    sum % MODULUS
+fn loop_in_64_bits(sheet: &[u8]) {
+    assert_eq!(checks::in_64_bits(black_box(sheet)), None, "the checks are right");
+}
+
+fn ordinary_read(sheet: &[u8]) {
+    assert_eq!(reader::read(black_box(sheet)), Ok(()), "the sheet is accepted");
+}
+
+/// A part of reading, and how to spoil a sheet of so many variables so that it is refused at that part's end.
+struct Stage {
+    name: &'static str,
+    spoil: fn(&mut [u8]),
+}
+
+const STAGES: [Stage; 4] = [
+    Stage { name: "checks", spoil: |sheet| sheet[0] = 2 },
+    Stage { name: "counts and zeros", spoil: |sheet| sheet[sheet.len() - BLOCK + CONTENT - 1] = 1 },
+    Stage { name: "variables", spoil: |sheet| sheet[variable_at(rules::VARIABLES) - 1] = 1 },
+    Stage { name: "nodes", spoil: |_| () },
+];
+
+/// What each part adds to the time of those before it.
+fn tell_stages(sheet: &[u8]) {
+    let times = STAGES.map(|stage| {
+        let mut spoiled = sheet.to_vec();
+        (stage.spoil)(&mut spoiled);
+        seal(&mut spoiled);
+        let (number, place) = reader::read(&spoiled).err().unwrap_or((0, 0));
+        assert_eq!(said(&spoiled), number << 48 | place as u64, "the ordinary reader's answer");
+        turns::compare(|| assert_eq!(said(&spoiled) >> 48, number), || ()).library
+    });
+    let added = (0..times.len()).map(|i| times[i] - if i == 0 { 0.0 } else { times[i - 1] });
+    println!("{:18} {}", sheet.len(), added.map(|time| format!("{:17.1}", time)).collect::<String>());
 }

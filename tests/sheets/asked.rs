@@ -100,6 +100,8 @@ pub fn blocks(random: &mut Random, out: &mut Output) {
         wrapped_blocks(random, out);
     }
     far_blocks(random, out);
+    lone_bytes(random, out);
+    heaviest_blocks(random, out);
 }
 
 fn make_block(random: &mut Random, bytes: &mut [u8], k: usize) -> Made {
@@ -172,5 +174,54 @@ fn wrapped_blocks(random: &mut Random, out: &mut Output) {
             questions.push((Question::Block(far), Some(0)));
         }
         out.ask("any: every block asked by a number past all bytes", &bytes, &questions);
+    }
+}
+
+/// A content with one byte that isn't zero, at each place: with its own weight the check is right, with another's not.
+fn lone_bytes(random: &mut Random, out: &mut Output) {
+    for place in 0..CONTENT {
+        let byte = 1 + random.below(255) as u8;
+        let with = |at: usize| {
+            let mut block = vec![0; BLOCK];
+            block[at] = byte;
+            block
+        };
+        let others = [place + CONTENT - 1, place + 1, place + CONTENT / 2].map(|at| at % CONTENT);
+        for (weighed, answer) in others.map(|at| (at, 0)).into_iter().chain([(place, CONTENT as u64)]) {
+            let mut bytes = with(place);
+            store_check(&mut bytes, 0, check(&with(weighed), 0));
+            let questions = [(Question::Read, None), (Question::Block(0), Some(answer))];
+            out.ask("any: a block with one byte alone", &bytes, &questions);
+        }
+    }
+}
+
+/// Contents with the greatest sum, and with one near it: the check is right, and not that of a sum cut short.
+fn heaviest_blocks(random: &mut Random, out: &mut Output) {
+    for below in [0, 1, 2, 255, 256, 65_535] {
+        let mut bytes = vec![255; BLOCK * (MOST_BLOCKS + 1)];
+        let made: Vec<Made> = (0..=MOST_BLOCKS).map(|k| heavy_block(random, &mut bytes, k, below)).collect();
+        ask_blocks(out, "any: blocks of the greatest sums", &bytes, &made);
+    }
+}
+
+/// Takes so much from a content's sum, at its heaviest bytes first, and makes its check.
+fn heavy_block(random: &mut Random, bytes: &mut [u8], k: usize, mut below: usize) -> Made {
+    let content = &mut bytes[BLOCK * k..BLOCK * k + CONTENT];
+    for (i, byte) in content.iter_mut().enumerate().rev() {
+        let less = (below / (i + 1)).min(255);
+        *byte -= less as u8;
+        below -= less * (i + 1);
+    }
+    let sum: u64 =
+        content.iter().zip(1..).map(|(&byte, weight)| u64::from(byte) * weight).sum::<u64>() + k as u64 + 1;
+    let bits = random.pick(&[16, 20, 24, 25, 32]);
+    let stored = (sum % (1 << bits) % u64::from(MODULUS)) as u16;
+    let right = stored == check(bytes, k);
+    store_check(bytes, k, stored);
+    if right {
+        Made::Right
+    } else {
+        Made::Wrong
     }
 }

@@ -13,7 +13,7 @@ pub fn kinds_of_answer(trial: &Trial, question: Question, answer: &Answer, first
     match question {
         Question::Read => kinds_of_reading("read", sheet, answer),
         Question::Name(variable) => kinds_of_name(variable, answer.said, first.refusal()),
-        Question::Block(k) => vec![kind_of_block(sheet, k, answer.said)],
+        Question::Block(k) => kinds_of_block(sheet, k, answer.said),
         Question::Check(_) => kinds_of_check(sheet, answer),
         Question::Tally => kinds_of_tally(sheet, answer),
         Question::Script(_) => kinds_of_script("script", sheet, answer),
@@ -60,6 +60,23 @@ fn kinds_of_name(variable: u16, answer: u64, refusal: u64) -> Vec<String> {
         (0, 0) => vec!["name: empty, not below V".to_string()],
         (0, _) => vec![format!("name: empty, refusal {}", refusal)],
         _ => vec![format!("name: of variable {}", variable), format!("name: of length {}", answer % 65_536)],
+    }
+}
+
+fn kinds_of_block(sheet: &[u8], k: u64, answer: u64) -> Vec<String> {
+    let mut kinds = vec![kind_of_block(sheet, k, answer)];
+    if answer != 0 {
+        kinds.extend(kind_of_content(&sheet[BLOCK * k as usize..][..CONTENT]));
+    }
+    kinds
+}
+
+fn kind_of_content(content: &[u8]) -> Option<String> {
+    let mut others = content.iter().enumerate().filter(|&(_, &byte)| byte != 0);
+    match (others.next(), others.next()) {
+        (Some((place, _)), None) => Some(format!("block: of byte {} alone", place)),
+        _ if content.iter().all(|&byte| byte == 255) => Some("block: of the greatest sum".to_string()),
+        _ => None,
     }
 }
 

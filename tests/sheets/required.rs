@@ -206,6 +206,7 @@ fn bulk(all: &mut All) {
     add(all, "any: ", "bytes at random|bytes at random, checks right|header right, then bytes at random");
     add(all, "any: ", "accepted but for some bytes, checks made anew|nodes at random, mostly right");
     add(all, "any: ", "every block asked|every block asked by a number past all bytes");
+    add(all, "any: ", "a block with one byte alone|blocks of the greatest sums");
 }
 
 fn edges(all: &mut All) {
@@ -249,6 +250,7 @@ fn names_and_blocks(all: &mut All) {
     all.extend((1..=8).map(|number| format!("name: empty, refusal {}", number)));
     add(all, "name: empty, ", "not below V");
     all.extend((0..=MOST_BLOCKS).map(|k| format!("block: {}", k)));
-    add(all, "block: ", "of a number over the most|of a number over 65,520");
+    add(all, "block: ", "of a number over the most|of a number over 65,520|of the greatest sum");
+    all.extend((0..CONTENT).map(|place| format!("block: of byte {} alone", place)));
     add(all, "block: empty, ", "past the lent bytes|partly inside|check wrong");
 }

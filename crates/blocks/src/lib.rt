@@ -31,7 +31,7 @@ fn stretch_sum(content: &[u8], from: usize, end: usize) -> u32
     requires { ⌜ (from ≤ end) × (end ≤ length (now content)) × (length (now content) ≤ contentBytes) ⌝ }
     ensures { λ r. ⌜ weighted 1 (take from (now (content .entry))) + r ≡ weighted 1 (take end (now (content .entry))) ⌝ }
 {
-    let mut sum: u32 = 0;
+    let mut sum = 0;
     let mut i = from;
     while i < end {
         sum += weighed(content, i);
@@ -45,7 +45,7 @@ fn weighed_sum(content: &[u8]) -> u32
     requires { ⌜ length (now content) ≡ contentBytes ⌝ }
     ensures { λ r. ⌜ r ≡ weighted 1 (now (content .entry)) ⌝ }
 {
-    let mut sum: u32 = 0;
+    let mut sum = 0;
     let mut from = 0;
     while from < CONTENT_BYTES {
         sum += stretch_sum(content, from, from + STRETCH_BYTES);
