@@ -1,4 +1,4 @@
--- Laws of a block's check: one more byte, and one changed byte. Assumes nothing.
+-- Laws of a block's check: one more byte, one changed byte, and the greatest sum. Assumes nothing.
 use mathlib.Core.Path.{_≡_, refl, _∙_, ap}
 use mathlib.Core.List.{List, [], _∷_, _++_}
 use Prim.Native.Nat.{ℕ, zero, suc, _+_, _*_, _/_, _^_, _≤_, _<_}
@@ -31,7 +31,7 @@ weighted-set w (x ∷ l) (suc i) b h =
     let ih = rw suc-add at (weighted-set (suc w) l i b (le-of-suc-le-suc h)) in
     rw add-suc (omega (arith, ih))
 
--- no content of so many bytes has a greater sum than one whose bytes are all 255, however few of its bytes are summed
+-- no bytes have a greater sum than as many, or more, that are all 255
 pub weighted-most : (w : ℕ) (l : List ℕ) (i n : ℕ) → Bytes l → i ≤ n → weighted w (take i l) ≤ weighted w (replicate n mostByte)
 unfolding weighted
 weighted-most w l zero n h le = omega arith
@@ -41,7 +41,7 @@ weighted-most w (x ∷ l) (suc i) (suc n) h le =
     let more : w * x ≤ w * mostByte = mul-le-mul {n₂ = w} {m₂ = mostByte} (omega arith) (omega (arith, h 0)) in
     omega (arith, more, weighted-most (suc w) l i n (λ j. h (suc j)) (le-of-suc-le-suc le))
 
--- 255 times 1 + 2 + ... + 510
+-- of a content it is 255 times 1 + 2 + ... + 510
 pub greatest-sum : weighted 1 (replicate contentBytes mostByte) ≡ mostByte * (contentBytes * (contentBytes + 1) / 2)
 unfolding weighted
 greatest-sum = refl
