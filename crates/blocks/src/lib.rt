@@ -16,7 +16,7 @@ use refusals::Reading;
 use refusals::Refusal;
 
 // A fifth of a content: so few bytes that the compiler makes their weights constants, and vectors of them.
-const STRETCH_BYTES: usize = 102;
+const STRETCH_BYTES: usize = CONTENT_BYTES / 5;
 
 // A content byte times its weight.
 fn weighed(content: &[u8], i: usize) -> u32

@@ -1,7 +1,7 @@
 -- `weighed_sum` meets its contract. The loop's invariant: whole stretches are passed, and the sum is that of their bytes. Assumes nothing.
 use borrow.Author.Needs.{needs}
 use mathlib.Core.Path.{_≡_, refl}
-use Prim.Native.Nat.{ℕ, _+_, _≤_, _-_, _%_}
+use Prim.Native.Nat.{ℕ, _+_, _-_, _/_, _%_, _≤_}
 use native.Mathlib.Omega.{arith}
 use lib.ListN.{take}
 use Rattle.layout.specs.Limits.{contentBytes}
@@ -11,7 +11,7 @@ use Rattle.blocks.proofs.weighed_sum.Statement.{statement}
 use Rattle.blocks.proofs.weighed_sum.Tie as tie
 
 abbrev stretchBytes : ℕ
-stretchBytes = 102
+stretchBytes = contentBytes / 5
 
 abbrev Inv-loop : tie.InvT-loop
 Inv-loop content sum₀ from₀ sum from =
