@@ -28,13 +28,14 @@ type Side = fn(&[u8]);
 fn main() {
     let sheets = NODES.map(|nodes| rules::sheet(&rules::rule(nodes), 1_000));
     println!("loading, ns per call: {}", turns::extent());
-    println!("what     bytes    library   beside                        {}", turns::HEADS);
+    println!("what          bytes         ns   beside                   ns   {}", turns::HEADS);
     for sheet in &sheets {
         compare("blocks", sheet, blocks, "a loop in 32 bits", loop_in_32_bits);
         compare("blocks", sheet, blocks, "a loop in 64 bits", loop_in_64_bits);
         compare("read", sheet, read, "a loop in 32 bits", loop_in_32_bits);
         compare("read", sheet, read, "a loop in 64 bits", loop_in_64_bits);
         compare("read", sheet, read, "an ordinary reader", ordinary_read);
+        compare("that reader", sheet, ordinary_read, "a loop in 32 bits", loop_in_32_bits);
     }
     println!("of read, ns  bytes {}", STAGES.map(|stage| format!("{:>17}", stage.name)).concat());
     sheets.iter().for_each(|sheet| tell_stages(sheet));
@@ -43,7 +44,7 @@ fn main() {
 fn compare(what: &str, sheet: &[u8], library: Side, beside: &str, ordinary: Side) {
     let sides = turns::compare(|| library(sheet), || ordinary(sheet));
     let (bytes, ours, theirs) = (sheet.len(), sides.library, sides.ordinary);
-    println!("{:6} {:7} {:10.1}   {:18} {:8.1}   {}", what, bytes, ours, beside, theirs, sides);
+    println!("{:11} {:7} {:10.1}   {:18} {:8.1}   {}", what, bytes, ours, beside, theirs, sides);
 }
 
 fn said(sheet: &[u8]) -> u64 {
