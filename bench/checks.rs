@@ -6,6 +6,7 @@ use crate::limits::*;
 
 macro_rules! plain_loop {
     ($name:ident, $number:ty) => {
+        #[inline(always)]
         pub fn $name(sheet: &[u8]) -> Option<usize> {
             for (k, block) in sheet.chunks_exact(BLOCK).enumerate() {
                 let mut sum = k as $number + 1;

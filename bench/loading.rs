@@ -23,8 +23,6 @@ extern "C" {
 /// Rules of so many nodes take sheets of 1,024 and of 4,608 bytes.
 const NODES: [usize; 2] = [31, 247];
 
-type Side = fn(&[u8]);
-
 fn main() {
     let sheets = NODES.map(|nodes| rules::sheet(&rules::rule(nodes), 1_000));
     println!("loading, ns per call: {}", turns::extent());
@@ -41,7 +39,8 @@ fn main() {
     sheets.iter().for_each(|sheet| tell_stages(sheet));
 }
 
-fn compare(what: &str, sheet: &[u8], library: Side, beside: &str, ordinary: Side) {
+/// Each side is compiled into the loop that times it, where it is quickest.
+fn compare(what: &str, sheet: &[u8], library: impl Fn(&[u8]), beside: &str, ordinary: impl Fn(&[u8])) {
     let sides = turns::compare(|| library(sheet), || ordinary(sheet));
     let (bytes, ours, theirs) = (sheet.len(), sides.library, sides.ordinary);
     println!("{:11} {:7} {:10.1}   {:18} {:8.1}   {}", what, bytes, ours, beside, theirs, sides);
