@@ -39,7 +39,7 @@ fn main() {
     sheets.iter().for_each(|sheet| tell_stages(sheet));
 }
 
-/// Each side is compiled into the loop that times it, where it is quickest.
+/// Each side is compiled into the loop that times it: a plain loop is quicker so.
 fn compare(what: &str, sheet: &[u8], library: impl Fn(&[u8]), beside: &str, ordinary: impl Fn(&[u8])) {
     let sides = turns::compare(|| library(sheet), || ordinary(sheet));
     let (bytes, ours, theirs) = (sheet.len(), sides.library, sides.ordinary);
