@@ -20,10 +20,10 @@
    and 9.
 
    no.  what is wrong                                                                    place
-   1    the length is zero, no multiple of 512, or over 4,608                            0
+   1    the length is zero, no multiple of 512, or over 33,280                           0
    2    a block's check is wrong                                                         the lowest such block
    3    the edition isn't 1                                                              0
-   4    N isn't in 1..248, V is over 16, the length isn't that of N nodes, or a byte     0
+   4    N isn't in 1..1984, V is over 16, the length isn't that of N nodes, or a byte    0
         outside the records of the variables and nodes should be zero and isn't
    5    a variable's record: min is over max; the name isn't a letter and then at most   the lowest such variable;
         15 letters, digits or underscores; a byte should be zero and isn't; or an        of two with one name
@@ -50,11 +50,11 @@
 #include <stdint.h>
 
 /* The longest sheet; a longer one is refused by its length, so that one byte more is all that need be read. */
-#define RAGWASHIN_MOST_SHEET_BYTES 4608
+#define RAGWASHIN_MOST_SHEET_BYTES 33280
 
 /* Rooms that always do: for the check in numbers, for either script in bytes. */
 #define RAGWASHIN_CHECK_ROOM 16
-#define RAGWASHIN_SCRIPT_ROOM 4096
+#define RAGWASHIN_SCRIPT_ROOM 20480
 
 #ifdef __cplusplus
 extern "C" {

@@ -148,7 +148,7 @@ RoomKept =
 abbrev pub InSixteenBits : Type 0
 InSixteenBits = (s : List ℕ) → Sheet s → (c : List ℤ) → Case (ruleIn s) c → (t : Tree Integer) → PartOf t (ruleIn s .goal) → Narrow (value (valueIn c) t)
 
--- a room of 4,096 bytes is enough for every script, with models and without
+-- a room of 20,480 bytes is enough for every script, with models and without
 abbrev pub RoomEnough : Type 0
 RoomEnough = (models : Bool) (s : List ℕ) → Sheet s → length (script (sixteen models) (ruleIn s)) ≤ enoughRoom
 

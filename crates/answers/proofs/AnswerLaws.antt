@@ -88,7 +88,7 @@ module _ (s : List ℕ) where
     unfolding answerText
     read-refused d = refused _ (sym e ∙ ap saidOf d)
 
-  -- ---- the script: 4,096 bytes are always enough
+  -- ---- the script: `enoughRoom` bytes are always enough
   module _ (models : Bool) {before after : List ℕ} (h : enoughRoom ≤ length before) {a : Written} (w : Writes (sixteen models) s before a after) where
     script-refusal : scriptRefusal (sixteen models) s (length before) ≡ refusalOf s
     unfolding scriptRefusal

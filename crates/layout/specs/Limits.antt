@@ -87,7 +87,7 @@ abbrev pub nodesInBlock : ℕ
 nodesInBlock = 31
 
 abbrev pub mostNodes : ℕ
-mostNodes = 248
+mostNodes = 1984
 
 -- the blocks that n nodes take, the last one perhaps in part
 abbrev pub blocksFor : ℕ → ℕ

@@ -57,7 +57,7 @@ pub const SPARE_START: usize = 10;
 // The node records of a block.
 pub const NODES_IN_BLOCK: usize = 31;
 
-pub const MOST_NODES: usize = 248;
+pub const MOST_NODES: usize = 1984;
 
 // Block 0 and the most node blocks, and the bytes of the longest sheet.
 pub const MOST_BLOCKS: usize = (MOST_NODES + (NODES_IN_BLOCK - 1)) / NODES_IN_BLOCK + 1;

@@ -22,7 +22,7 @@ scriptRefusal f s room = refusalOf s otherwise unless (leb (length (script f (ru
 
 -- a room of so many bytes is enough for both scripts of every accepted sheet
 abbrev pub enoughRoom : ℕ
-enoughRoom = 4096
+enoughRoom = 20480
 
 -- what an answer says: the refusal and 0, or none and the bytes written
 abbrev pub writtenSaid : Written → Option Refusal × ℕ

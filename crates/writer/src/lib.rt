@@ -19,7 +19,7 @@ use refusals::Refusal;
 use wording::ScriptForm;
 
 // A room of so many bytes is enough for both scripts of every accepted sheet.
-pub const ENOUGH_ROOM: usize = 4096;
+pub const ENOUGH_ROOM: usize = 20480;
 
 // The first lines, what stands before and behind the goal's text, and the last line.
 const PRODUCE_MODELS: [u8; 34] = *b"(set-option :produce-models true)\n";

@@ -1,4 +1,4 @@
--- `writer::goal_node` meets its contract: an accepted sheet has 1 to 248 nodes. Assumes nothing.
+-- `writer::goal_node` meets its contract: an accepted sheet has at least one node. Assumes nothing.
 use native.Mathlib.Omega.{arith}
 use borrow.Author.Needs.{needs}
 use Rattle.reading.proofs.RuleLaws.{accepted-counted}
