@@ -28,7 +28,7 @@ use Rattle.meaning.proofs.Failures.{first-fails}
 use Rattle.kinds.specs.declared.Kind.{Kind}
 use Rattle.kinds.specs.Kinds.{find, kindOf}
 use Rattle.kinds.specs.Rows.{itself, operand}
-use Rattle.layout.specs.Limits.{blockBytes}
+use Rattle.layout.specs.Limits.{blockBytes, mostNodes}
 use Rattle.layout.specs.Checks.{weighted, checkOf, blockRight}
 use Rattle.layout.specs.Starts.{startAt}
 use Rattle.layout.specs.Goal.{treeAt}
@@ -96,7 +96,7 @@ pub record Facts : Type 0 where
 abbrev pub factsOf : List ℕ → List ℕ → Facts
 factsOf s other = record {
   are-bytes = (areBytes s, areBytes other);
-  refusals = (refusalOf s, refusalOf other);
+  refusals = (refusalOf mostNodes s, refusalOf mostNodes other);
   variables = variableCount s;
   size = length s;
   cases = caseCount (ruleIn s);
@@ -117,7 +117,7 @@ module _ {s other : List ℕ} {heldCases failedCases : ℕ} {firstCase : Option 
   fact : {A : Type 0} (f : Facts → A) → f (factsOf s other) ≡ f (accepting heldCases failedCases firstCase)
   fact f = ap f (c .facts)
 
-  pub accepts : refusalOf s ≡ none
+  pub accepts : refusalOf mostNodes s ≡ none
   accepts = fact (λ (x : Facts). x .refusals .0)
 
   pub first-is : firstFailure (ruleIn s) ≡ firstCase
@@ -127,10 +127,10 @@ module _ {s other : List ℕ} {heldCases failedCases : ℕ} {firstCase : Option 
   two-variables = fact (λ (x : Facts). x .variables)
 
   pub sheet : Sheet s
-  sheet = record { bytes = bytes-by s (fact (λ (x : Facts). x .are-bytes .0)); no-row = sheet-exactly s .passed .0 accepts }
+  sheet = record { bytes = bytes-by s (fact (λ (x : Facts). x .are-bytes .0)); no-row = sheet-exactly mostNodes s .passed .0 accepts }
 
   pub other-sheet : Sheet other
-  other-sheet = record { bytes = bytes-by other (fact (λ (x : Facts). x .are-bytes .1)); no-row = sheet-exactly other .passed .0 (fact (λ (x : Facts). x .refusals .1)) }
+  other-sheet = record { bytes = bytes-by other (fact (λ (x : Facts). x .are-bytes .1)); no-row = sheet-exactly mostNodes other .passed .0 (fact (λ (x : Facts). x .refusals .1)) }
 
   pub few-cases : caseCount (ruleIn s) ≤ mostCases
   few-cases = rw (fact (λ (x : Facts). x .cases)) few
@@ -138,7 +138,7 @@ module _ {s other : List ℕ} {heldCases failedCases : ℕ} {firstCase : Option 
   enough : (room : List ℤ) → length room ≡ 3 → variableCount s ≤ length room
   enough room l = omega (arith, two-variables)
 
-  pub tally-is : Tallies s (record { reading = accepted; held = heldCases; failed = failedCases })
+  pub tally-is : Tallies mostNodes s (record { reading = accepted; held = heldCases; failed = failedCases })
   tally-is = let e = tallied sheet few-cases in record { answer = sym e; held-count = rw (e, fact (λ (x : Facts). x .held-cases)); failed-count = rw (e, fact (λ (x : Facts). x .failed-cases)) }
 
   -- ---- the promises about a sheet and its script
@@ -148,7 +148,7 @@ module _ {s other : List ℕ} {heldCases failedCases : ℕ} {firstCase : Option 
   pub sheet-again : Sheet (sheetOf (ruleIn s)) × (ruleIn (sheetOf (ruleIn s)) ≡ ruleIn s)
   sheet-again = rule-of-sheet (ruleIn s) (allowed-sheet .0)
 
-  pub byte-changed : (j b : ℕ) → j < 1024 → b < 256 → (b ≡ byteAt s j → ⊥) → refusalOf (set s j b) ≡ some (record { number = 2; place = j / blockBytes })
+  pub byte-changed : (j b : ℕ) → j < 1024 → b < 256 → (b ≡ byteAt s j → ⊥) → refusalOf mostNodes (set s j b) ≡ some (record { number = 2; place = j / blockBytes })
   byte-changed j b h = one-byte-changed s sheet j b (rw (fact (λ (x : Facts). x .size)) h)
 
   module _ (models : Bool) where
@@ -174,13 +174,13 @@ module _ {s other : List ℕ} {heldCases failedCases : ℕ} {firstCase : Option 
 
   -- ---- the check, with room for three numbers
   module _ (room : List ℤ) (three : length room ≡ 3) where
-    pub fails-as : {first : List ℤ} → firstCase ≡ some first → Checks s room Fails (first ++ drop (length first) room)
+    pub fails-as : {first : List ℤ} → firstCase ≡ some first → Checks mostNodes s room Fails (first ++ drop (length first) room)
     fails-as e =
         let d = checked sheet few-cases (enough room three) in
         let f = first-is ∙ e in
         record { answer = rw (d, f); room = rw (d, f) }
 
-    pub holds-as : firstCase ≡ none → Checks s room Holds room
+    pub holds-as : firstCase ≡ none → Checks mostNodes s room Holds room
     holds-as e =
         let d = checked sheet few-cases (enough room three) in
         let f = first-is ∙ e in
@@ -287,17 +287,17 @@ spelled-A : SpellsCase 2 replyA (pos 0 ∷ pos 1 ∷ [])
 unfolding dec symbolText hexText hexDigit
 spelled-A = record { setting = 0 ∷ 1 ∷ []; spelled = spells-setting (0 ∷ 1 ∷ []) (refl, (refl, tt)); case = refl }
 
-pub believed-A : Replies sheetA replyA believed
+pub believed-A : Replies mostNodes sheetA replyA believed
 believed-A = replies-believed sheetA (sheet computedA (lit≤ tt)) replyA .1 (pos 0 ∷ pos 1 ∷ [], first-A .failing, spelled-A)
 
 pub satisfies-A : (models : Bool) → (t : List ℕ) × Satisfies (script (sixteen models) (ruleIn sheetA)) t × SpellsSetting 2 replyA t
 satisfies-A models = replies-satisfy models sheetA (sheet computedA (lit≤ tt)) replyA .0 believed-A
 
-pub none-believed-11 : (reply : List ℕ) → Replies sheet11 reply believed → ⊥
+pub none-believed-11 : (reply : List ℕ) → Replies mostNodes sheet11 reply believed → ⊥
 none-believed-11 reply h = let w = replies-satisfy true sheet11 (sheet computed11 (lit≤ tt)) reply .0 h in unsatisfiable-11 true (w .0) (w .1)
 
 -- the digits of its second value
-pub digits-A : (part : RefT (List ℕ)) → DigitsPart sheetA (lent replyA) 1 part → dec 16 (numberOf 16 (map digitValue (part .now))) ≡ pos 1
+pub digits-A : (part : RefT (List ℕ)) → DigitsPart mostNodes sheetA (lent replyA) 1 part → dec 16 (numberOf 16 (map digitValue (part .now))) ≡ pos 1
 unfolding placeBehind
 digits-A part p = digits-read sheetA (lent replyA) part 1 p .0 (pos 0 ∷ pos 1 ∷ []) (believed-A, lit< tt) spelled-A
 
@@ -318,18 +318,18 @@ unfolding below course treeAt dec find kindOf
 sixteen-A = in-sixteen sheetA (sheet computedA (lit≤ tt)) (pos 0 ∷ pos 1 ∷ []) case-A (var 1) (operand Kind.Equal (var 0, var 1) (List·Memᴰ·tail (List·Memᴰ·head refl)) itself)
 
 -- ---- a sheet that is refused: 16,384 + 16,384 at node 2
-pub refusal-8 : refusalOf sheet8 ≡ some (record { number = 8; place = 2 })
+pub refusal-8 : refusalOf mostNodes sheet8 ≡ some (record { number = 8; place = 2 })
 unfolding allBelow below course first dec isNarrow hasNarrowEnds leastOf greatestOf find kindOf weighted checkOf blockRight startAt ofNode lengthRight early zeros countsRight tailClear outsideClear header isLetter isNameByte allNameBytes nameRight sameBytes variableRight fresh findingOf rightlyPlaced typed nodeRefusal nodes refusalOf
 refusal-8 = refl
 
-pub refused-8 : Answered (sheetRows sheet8) (record { number = 8; place = 2 })
-refused-8 = sheet-exactly sheet8 .refused (record { number = 8; place = 2 }) .0 refusal-8
+pub refused-8 : Answered (sheetRows mostNodes sheet8) (record { number = 8; place = 2 })
+refused-8 = sheet-exactly mostNodes sheet8 .refused (record { number = 8; place = 2 }) .0 refusal-8
 
 -- ---- parts of a lent sheet: a name of sheet A, none of the sheet that is refused, and no third block of sheet A
-pub name-A : (part : RefT (List ℕ)) → NamePart (lent sheetA) 0 part → length (part .now) ≡ 0 → ⊥
+pub name-A : (part : RefT (List ℕ)) → NamePart mostNodes (lent sheetA) 0 part → length (part .now) ≡ 0 → ⊥
 name-A part p e = ⊎-elim (λ w. let z : _≡_ {A = ℕ} 0 1 = cc (w .1, accepts computedA (lit≤ tt)) in omega arith) (λ l. omega (arith, two-variables computedA (lit≤ tt))) (name-empty (lent sheetA) part 0 p .0 e)
 
-pub no-name-8 : (part : RefT (List ℕ)) → NamePart (lent sheet8) 0 part → length (part .now) ≡ 0
+pub no-name-8 : (part : RefT (List ℕ)) → NamePart mostNodes (lent sheet8) 0 part → length (part .now) ≡ 0
 no-name-8 part p = name-empty (lent sheet8) part 0 p .1 (inl (record { number = 8; place = 2 }, refusal-8))
 
 pub no-block-A : (part : RefT (List ℕ)) → BlockPart (lent sheetA) 2 part → length (part .now) ≡ 0

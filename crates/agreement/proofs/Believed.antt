@@ -7,6 +7,7 @@ use lib.Dec.{lit≤}
 use lib.IntN.{ℤ}
 use Rattle.numbers.specs.Two.{enc, dec}
 use Rattle.numbers.proofs.Coding.{enc-dec, decs-encs}
+use Rattle.layout.specs.Limits.{mostNodes}
 use Rattle.layout.specs.Parts.{variableCount, ruleIn}
 use Rattle.smtlib.specs.Satisfaction.{Satisfies}
 use Rattle.wording.specs.Form.{sixteen}
@@ -39,13 +40,13 @@ spelled-setting x = ap (map (enc 16)) (sym (x .case)) ∙ encs-decs (x .setting)
 pub replies-satisfy : promise.RepliesSatisfy
 replies-satisfy models s h reply = (to, from)
   where
-    to : Replies s reply Fails → (t : List ℕ) × Satisfies (script (sixteen models) (ruleIn s)) t × SpellsSetting (variableCount s) reply t
+    to : Replies mostNodes s reply Fails → (t : List ℕ) × Satisfies (script (sixteen models) (ruleIn s)) t × SpellsSetting (variableCount s) reply t
     to r =
         let w = replies-believed s h reply .0 r in
         let x = w .2 in
         (x .setting, subst (Satisfies (script (sixteen models) (ruleIn s))) (spelled-setting x) (match models s h .satisfies (w .0) (w .1)), x .spelled)
 
-    from : (t : List ℕ) × Satisfies (script (sixteen models) (ruleIn s)) t × SpellsSetting (variableCount s) reply t → Replies s reply Fails
+    from : (t : List ℕ) × Satisfies (script (sixteen models) (ruleIn s)) t × SpellsSetting (variableCount s) reply t → Replies mostNodes s reply Fails
     from w =
         let p = match models s h .onto (w .0) (w .1) in
         let c = p .0 in

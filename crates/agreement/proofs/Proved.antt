@@ -20,7 +20,7 @@ use Rattle.meaning.proofs.Listed.{listed, in-order, in-every}
 use Rattle.meaning.proofs.Counts.{case-count, held-failed}
 use Rattle.meaning.proofs.Repeats.{map-no-repeats}
 use Rattle.meaning.proofs.Failures.{failures-are, failures-once, failed-is}
-use Rattle.layout.specs.Limits.{blockBytes}
+use Rattle.layout.specs.Limits.{blockBytes, mostNodes}
 use Rattle.layout.specs.Parts.{variableCount, ruleIn}
 use Rattle.layout.specs.LaidOut.{LaidOut}
 use Rattle.layout.specs.Sheet.{sheetOf}
@@ -62,16 +62,16 @@ pub refused-by-row : promise.RefusedExactly
 refused-by-row = sheet-exactly
 
 pub calls-refused-by-row : promise.CallsRefusedExactly
-calls-refused-by-row s room = (tally-exactly s, check-exactly s room, λ f. script-exactly f s room)
+calls-refused-by-row limit s room = (tally-exactly limit s, check-exactly limit s room, λ f. script-exactly limit f s room)
 
 pub name-empty : promise.NameEmpty
-name-empty sheet part i p = Iff·trans (empty-where (λ g. let n = given-name (sheet .now) i g in (n .some-byte, n .inside)) p) (λ f. go (refusalOf (sheet .now)) refl f, back)
+name-empty sheet part i p = Iff·trans (empty-where (λ g. let n = given-name (sheet .now) i g in (n .some-byte, n .inside)) p) (λ f. go (refusalOf mostNodes (sheet .now)) refl f, back)
   where
-    go : (o : Option Refusal) → refusalOf (sheet .now) ≡ o → (NameGiven (sheet .now) i → ⊥) → ((r : Refusal) × (refusalOf (sheet .now) ≡ some r)) ⊎ (variableCount (sheet .now) ≤ i)
+    go : (o : Option Refusal) → refusalOf mostNodes (sheet .now) ≡ o → (NameGiven mostNodes (sheet .now) i → ⊥) → ((r : Refusal) × (refusalOf mostNodes (sheet .now) ≡ some r)) ⊎ (variableCount (sheet .now) ≤ i)
     go (some r) e f = inl (r, e)
     go none e f = inr (elim (decLt i (variableCount (sheet .now))) [ yes l ↦ absurd (f (e, l)) | no l ↦ omega arith ])
 
-    back : ((r : Refusal) × (refusalOf (sheet .now) ≡ some r)) ⊎ (variableCount (sheet .now) ≤ i) → NameGiven (sheet .now) i → ⊥
+    back : ((r : Refusal) × (refusalOf mostNodes (sheet .now) ≡ some r)) ⊎ (variableCount (sheet .now) ≤ i) → NameGiven mostNodes (sheet .now) i → ⊥
     back (inl w) g = let z : _≡_ {A = ℕ} 0 1 = cc (w .1, g .0) in omega arith
     back (inr l) g = omega (arith, g .1)
 
@@ -81,8 +81,8 @@ block-empty sheet part k p =
     (λ f. elim (decLe (blockBytes * k + blockBytes) (length (sheet .now))) [ yes l ↦ inr (λ e. f (l, e)) | no l ↦ inl l ], λ w g. ⊎-elim (λ f. f (g .0)) (λ f. f (g .1)) w)
 
 module _ {s : List ℕ} (h : Sheet s) where
-  pub accepts : refusalOf s ≡ none
-  accepts = sheet-exactly s .passed .1 (h .no-row)
+  pub accepts : refusalOf mostNodes s ≡ none
+  accepts = sheet-exactly mostNodes s .passed .1 (h .no-row)
 
   pub allowed : Allowed (ruleIn s)
   allowed = rule-allowed s (h .bytes) (ruleIn s) (rule-some s accepts)
@@ -96,7 +96,7 @@ sheet-of-rule s h = (allowed h, rule-to-sheet s (h .bytes) (ruleIn s) (rule-some
 pub rule-of-sheet : promise.RuleOfSheet
 rule-of-sheet r a =
     let w = rule-exactly (sheetOf r) r .0 (sheet-to-rule r a) in
-    (record { bytes = sheet-laid-out r (a .well-formed) .bytes; no-row = sheet-exactly (sheetOf r) .passed .0 (w .0) }, w .1)
+    (record { bytes = sheet-laid-out r (a .well-formed) .bytes; no-row = sheet-exactly mostNodes (sheetOf r) .passed .0 (w .0) }, w .1)
 
 pub one-byte-changed : promise.OneByteChanged
 one-byte-changed s h = changed-byte s (h .bytes) (accepts h)
@@ -109,10 +109,10 @@ pub all-counted : promise.AllCounted
 all-counted r = (held-failed r, case-count r)
 
 module _ {s : List ℕ} (h : Sheet s) (few : caseCount (ruleIn s) ≤ mostCases) where
-  pub tallied : tryRefusal s ≡ none
+  pub tallied : tryRefusal mostNodes s ≡ none
   tallied = passes (caseCount (ruleIn s)) mostCases 10 0 (accepts h) few
 
-  pub checked : {room : ℕ} → variableCount s ≤ room → checkRefusal s room ≡ none
+  pub checked : {room : ℕ} → variableCount s ≤ room → checkRefusal mostNodes s room ≡ none
   unfolding checkRefusal
   checked {room} l = passes (variableCount s) room 9 (variableCount s) tallied l
 
@@ -194,7 +194,7 @@ check-agrees models s h few before after r l c =
     let none-refused = checked h few l in
     (Iff·trans (fails-exactly s c none-refused) (some-setting models s h), named none-refused)
   where
-    named : checkRefusal s (length before) ≡ none → r ≡ Fails → Satisfies (script (sixteen models) (ruleIn s)) (settingOf 16 (take (variableCount s) after))
+    named : checkRefusal mostNodes s (length before) ≡ none → r ≡ Fails → Satisfies (script (sixteen models) (ruleIn s)) (settingOf 16 (take (variableCount s) after))
     named e p =
         let first = take (variableCount s) after in
         matched models s h .satisfies first (room-fails s c e p .0 .failing)

@@ -17,6 +17,7 @@ use Rattle.layout.specs.Parts.{variableCount, ruleIn}
 use Rattle.layout.proofs.PartLaws.{variable-total}
 use Rattle.refusals.specs.declared.Refusal.{Refusal}
 use Rattle.refusals.specs.Said.{unless}
+use Rattle.layout.specs.Limits.{mostNodes}
 use Rattle.reading.specs.Cascade.{refusalOf}
 use Rattle.cases.specs.declared.Checked.{Checked}
 use Rattle.cases.specs.Checks.{tryRefusal, checkRefusal, checkedSaid, Checks}
@@ -52,9 +53,9 @@ module _ {A : Type 0} (x room : List A) (n : ℕ) (e : length x ≡ n) (l : n �
 refusal-of : {A : Type 0} {x y : Option Refusal × A} → x ≡ y → x .0 ≡ y .0
 refusal-of {A} e = ap (λ (z : Option Refusal × A). z .0) e
 
-check-room : (s : List ℕ) (before after : List ℤ) (r : Checked) → Checks s before r after → CheckRoom s before r after
+check-room : (s : List ℕ) (before after : List ℤ) (r : Checked) → Checks mostNodes s before r after → CheckRoom s before r after
 unfolding checkRefusal
-check-room s before after r h = by (checkRefusal s (length before)) refl (firstFailure (ruleIn s)) refl
+check-room s before after r h = by (checkRefusal mostNodes s (length before)) refl (firstFailure (ruleIn s)) refl
   where
     v : ℕ
     v = variableCount s
@@ -63,15 +64,15 @@ check-room s before after r h = by (checkRefusal s (length before)) refl (firstF
     unchanged e = record { refused = λ q p. e; holds = λ p. e; past = ap (drop v) e; size = ap length e }
 
     -- the answer of a check that fails is neither holds nor a refusal
-    other : {c : List ℤ} → checkRefusal s (length before) ≡ none → firstFailure (ruleIn s) ≡ some c → checkedSaid r ≡ (none, true)
+    other : {c : List ℤ} → checkRefusal mostNodes s (length before) ≡ none → firstFailure (ruleIn s) ≡ some c → checkedSaid r ≡ (none, true)
     other p q = h .answer ∙ rw (p, q)
 
-    by : (o : Option Refusal) → checkRefusal s (length before) ≡ o → (f : Option (List ℤ)) → firstFailure (ruleIn s) ≡ f → CheckRoom s before r after
+    by : (o : Option Refusal) → checkRefusal mostNodes s (length before) ≡ o → (f : Option (List ℤ)) → firstFailure (ruleIn s) ≡ f → CheckRoom s before r after
     by (some x) p f q = unchanged (h .room ∙ rw p)
     by none p none q = unchanged (h .room ∙ rw (p, q))
     by none p (some c) q =
         let n : length c ≡ v = first-fails (ruleIn s) q .0 .all ∙ variable-total s in
-        let l : v ≤ length before = room-there (tryRefusal s) v (length before) v p in
+        let l : v ≤ length before = room-there (tryRefusal mostNodes s) v (length before) v p in
         let e : after ≡ c ++ drop v before = h .room ∙ rw (p, q, n) in
         let said = other p q in
         record {
@@ -81,14 +82,14 @@ check-room s before after r h = by (checkRefusal s (length before)) refl (firstF
           size = ap length e ∙ whole c before v n l;
         }
 
-script-room : (f : Form) (s before after : List ℕ) (r : Written) → Writes f s before r after → ScriptRoom f s before r after
+script-room : (f : Form) (s before after : List ℕ) (r : Written) → Writes mostNodes f s before r after → ScriptRoom f s before r after
 unfolding scriptRefusal over
-script-room f s before after r h = by (scriptRefusal f s (length before)) refl
+script-room f s before after r h = by (scriptRefusal mostNodes f s (length before)) refl
   where
     text : List ℕ
     text = script f (ruleIn s)
 
-    by : (o : Option Refusal) → scriptRefusal f s (length before) ≡ o → ScriptRoom f s before r after
+    by : (o : Option Refusal) → scriptRefusal mostNodes f s (length before) ≡ o → ScriptRoom f s before r after
     by (some x) p =
         let e : after ≡ before = h .room ∙ rw p in
         let said : writtenSaid r ≡ (some x, 0) = h .answer ∙ rw p in
@@ -98,7 +99,7 @@ script-room f s before after r h = by (scriptRefusal f s (length before)) refl
           size = ap length e;
         }
     by none p =
-        let l : length text ≤ length before = room-there (refusalOf s) (length text) (length before) (length text) p in
+        let l : length text ≤ length before = room-there (refusalOf mostNodes s) (length text) (length before) (length text) p in
         let e : after ≡ text ++ drop (length text) before = h .room ∙ rw p in
         let said : writtenSaid r ≡ (none, length text) = h .answer ∙ rw p in
         record {

@@ -26,6 +26,7 @@ use Rattle.refusals.specs.declared.Reading.the-variants.{Accepted}
 use Rattle.blocks.specs.Early.{lengthRight, early}
 use Rattle.header.specs.Header.{zeros, countsRight, tailClear, outsideClear, header}
 use Rattle.lists.specs.Names.{sameBytes}
+use Rattle.layout.specs.Limits.{mostNodes}
 use Rattle.records.specs.Variables.{isLetter, isNameByte, allNameBytes, nameRight, variableRight, fresh}
 use Rattle.findings.specs.Findings.{findingOf}
 use Rattle.order.specs.Order.{rightlyPlaced}
@@ -44,7 +45,7 @@ use Rattle.writer.specs.Writes.{scriptRefusal, Writes}
 use Rattle.agreement.specs.Starred.{StarredCase, EachMet, starredCases}
 
 -- ---- what `read` answers of each sheet
-reads : map (λ (c : StarredCase). refusalOf (c .sheet)) starredCases
+reads : map (λ (c : StarredCase). refusalOf mostNodes (c .sheet)) starredCases
     ≡ some (record { number = 4; place = 0 }) ∷ none ∷ none ∷ none ∷ none ∷ none ∷ none ∷ some (record { number = 8; place = 2 }) ∷ none ∷ some (record { number = 8; place = 1 }) ∷ none ∷ []
 unfolding allBelow below course first dec isNarrow hasNarrowEnds leastOf greatestOf find kindOf weighted checkOf blockRight startAt ofNode lengthRight early zeros countsRight tailClear outsideClear header isLetter isNameByte allNameBytes nameRight sameBytes variableRight fresh findingOf rightlyPlaced typed nodeRefusal nodes refusalOf
 reads = refl
@@ -54,21 +55,21 @@ in-row : {a b : List (Option Refusal)} (n : ℕ) → a ≡ b → getD a n none �
 in-row n e = ap (λ (l : List (Option Refusal)). getD l n none) e
 
 -- ---- what the other calls answer of an accepted sheet
-module _ (s : List ℕ) (e : refusalOf s ≡ none) where
-  writes-as : (room : List ℕ) {t : List ℕ} → script (sixteen false) (ruleIn s) ≡ t → leb (length t) (length room) ≡ true → Writes (sixteen false) s room (Script (length t)) (over t room)
+module _ (s : List ℕ) (e : refusalOf mostNodes s ≡ none) where
+  writes-as : (room : List ℕ) {t : List ℕ} → script (sixteen false) (ruleIn s) ≡ t → leb (length t) (length room) ≡ true → Writes mostNodes (sixteen false) s room (Script (length t)) (over t room)
   unfolding scriptRefusal
   writes-as room {t} p enough =
-      let d : scriptRefusal (sixteen false) s (length room) ≡ none = rw (e, p, enough) in
+      let d : scriptRefusal mostNodes (sixteen false) s (length room) ≡ none = rw (e, p, enough) in
       record { answer = rw (d, p); room = rw (d, p) }
 
   module _ (few : leb (caseCount (ruleIn s)) mostCases ≡ true) where
-    tallies-as : {h f : ℕ} → held (ruleIn s) ≡ h → failed (ruleIn s) ≡ f → Tallies s (record { reading = Accepted; held = h; failed = f })
+    tallies-as : {h f : ℕ} → held (ruleIn s) ≡ h → failed (ruleIn s) ≡ f → Tallies mostNodes s (record { reading = Accepted; held = h; failed = f })
     tallies-as p q = record { answer = rw (e, few); held-count = rw (e, few, p); failed-count = rw (e, few, q) }
 
-    checks-as : (room : List ℤ) {f : Option (List ℤ)} {r : Checked} → leb (variableCount s) (length room) ≡ true → firstFailure (ruleIn s) ≡ f → checkedSaid r ≡ (none, isSome f) → Checks s room r (withCase f room)
+    checks-as : (room : List ℤ) {f : Option (List ℤ)} {r : Checked} → leb (variableCount s) (length room) ≡ true → firstFailure (ruleIn s) ≡ f → checkedSaid r ≡ (none, isSome f) → Checks mostNodes s room r (withCase f room)
     unfolding checkRefusal
     checks-as room enough p said =
-        let d : checkRefusal s (length room) ≡ none = rw (e, few, enough) in
+        let d : checkRefusal mostNodes s (length room) ≡ none = rw (e, few, enough) in
         record { answer = said ∙ rw (d, p); room = rw (d, p) }
 
 -- ---- the table: one row behind another, and one claim behind another

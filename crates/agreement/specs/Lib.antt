@@ -1,3 +1,4 @@
 pub mod Statements
 pub mod Between
+pub mod Raised
 pub mod Starred

@@ -12,7 +12,7 @@ use Rattle.lists.specs.Ascii.{ascii}
 use Rattle.lists.specs.Joined.{joined}
 use Rattle.numbers.specs.declared.Range.{Range}
 use Rattle.numbers.specs.Ranges.{_⋯_}
-use Rattle.layout.specs.Limits.{contentBytes, headerBytes, variableBytes, nodeBytes}
+use Rattle.layout.specs.Limits.{contentBytes, headerBytes, variableBytes, nodeBytes, mostNodes}
 use Rattle.refusals.specs.declared.Reading.{Reading}
 use Rattle.refusals.specs.declared.Reading.the-variants.{Accepted, Refused}
 use Rattle.refusals.specs.Said.{saidOf}
@@ -63,11 +63,11 @@ pub data Claim : Type 0 where
 -- what `read` answers, a node's range, what `check` answers and leaves in its room, what `tally` answers, and what the writer answers and leaves in a room of
 -- so many zeros
 abbrev pub Met : List ℕ → Claim → Type 0
-Met s (reads r) = saidOf r ≡ refusalOf s
+Met s (reads r) = saidOf r ≡ refusalOf mostNodes s
 Met s (finds n r) = findingAt s n ≡ Integer r
-Met s (checks room r after) = Checks s room r after
-Met s (tallies r) = Tallies s r
-Met s (writes size r after) = Writes (sixteen false) s (replicate size 0) r after
+Met s (checks room r after) = Checks mostNodes s room r after
+Met s (tallies r) = Tallies mostNodes s r
+Met s (writes size r after) = Writes mostNodes (sixteen false) s (replicate size 0) r after
 
 pub record StarredCase : Type 0 where
   pub sheet : List ℕ

@@ -24,7 +24,7 @@ use Rattle.meaning.specs.Rule.{Rule, Case, valueIn}
 use Rattle.meaning.specs.Cases.{casesOf, Failing, AllHold, held, failed}
 use Rattle.meaning.specs.CaseOrder.{Earlier, Rising, FirstFailing}
 use Rattle.kinds.specs.Rows.{PartOf}
-use Rattle.layout.specs.Limits.{blockBytes}
+use Rattle.layout.specs.Limits.{blockBytes, mostNodes}
 use Rattle.layout.specs.Checks.{checkOf, content, storedCheck, Inside}
 use Rattle.layout.specs.WellFormed.{WellFormed}
 use Rattle.layout.specs.Parts.{variableCount, ruleIn, Nameless}
@@ -68,24 +68,24 @@ use Rattle.trial.specs.Digits.{DigitsGiven, DigitsPart, DigitsSpan}
 -- an accepted sheet: bytes to which no row of the table of refusals applies
 pub record Sheet (s : List ℕ) : Type 0 where
   pub bytes : Bytes s
-  pub no-row : Accepted s
+  pub no-row : Accepted mostNodes s
 
--- ---- demand 1: any bytes; exactly the number and place of the table, and nothing refused without that cause
+-- ---- demand 1: any bytes; exactly the number and place of the table, and nothing refused without that cause, whatever the limit of nodes
 abbrev pub RefusedExactly : Type 0
-RefusedExactly = (s : List ℕ) → Exactly (sheetRows s) (refusalOf s)
+RefusedExactly = (limit : ℕ) (s : List ℕ) → Exactly (sheetRows limit s) (refusalOf limit s)
 
 -- 10 and 9, for the calls that give them: the tally, the check with so many numbers of room, the writer with so many bytes, in any form. What a reply is refused
 -- for stands in `Replies`
 abbrev pub CallsRefusedExactly : Type 0
 CallsRefusedExactly =
-    (s : List ℕ) (room : ℕ)
-    → Exactly (tallyRows s) (tryRefusal s) × Exactly (checkRows s room) (checkRefusal s room) × ((f : Form) → Exactly (scriptRows f s room) (scriptRefusal f s room))
+    (limit : ℕ) (s : List ℕ) (room : ℕ)
+    → Exactly (tallyRows limit s) (tryRefusal limit s) × Exactly (checkRows limit s room) (checkRefusal limit s room) × ((f : Form) → Exactly (scriptRows limit f s room) (scriptRefusal limit f s room))
 
 -- a name is empty exactly where the sheet is refused or the variable isn't below V; a block's content, where the block isn't wholly inside or its check is wrong
 abbrev pub NameEmpty : Type 0
 NameEmpty =
-    (sheet part : RefT (List ℕ)) (i : ℕ) → NamePart sheet i part
-    → (length (part .now) ≡ 0) ↔ (((r : Refusal) × (refusalOf (sheet .now) ≡ some r)) ⊎ (variableCount (sheet .now) ≤ i))
+    (sheet part : RefT (List ℕ)) (i : ℕ) → NamePart mostNodes sheet i part
+    → (length (part .now) ≡ 0) ↔ (((r : Refusal) × (refusalOf mostNodes (sheet .now) ≡ some r)) ⊎ (variableCount (sheet .now) ≤ i))
 
 abbrev pub BlockEmpty : Type 0
 BlockEmpty =
@@ -103,7 +103,7 @@ RuleOfSheet = (r : Rule) → Allowed r → Sheet (sheetOf r) × (ruleIn (sheetOf
 abbrev pub OneByteChanged : Type 0
 OneByteChanged =
     (s : List ℕ) → Sheet s → (j b : ℕ) → j < length s → b < 256 → (b ≡ byteAt s j → ⊥)
-    → refusalOf (set s j b) ≡ some (record { number = 2; place = j / blockBytes })
+    → refusalOf mostNodes (set s j b) ≡ some (record { number = 2; place = j / blockBytes })
 
 -- ---- demand 2: the list of cases has exactly the cases, in their order, so each once
 abbrev pub CasesListed : Type 0
@@ -116,13 +116,13 @@ AllCounted = (r : Rule) → (held r + failed r ≡ length (casesOf r)) × (lengt
 -- up to 1,000,000 cases and with room for V numbers, the check says that the rule holds exactly where every case holds
 abbrev pub HoldsExactly : Type 0
 HoldsExactly =
-    (s : List ℕ) → Sheet s → caseCount (ruleIn s) ≤ mostCases → (before after : List ℤ) (r : Checked) → variableCount s ≤ length before → Checks s before r after
+    (s : List ℕ) → Sheet s → caseCount (ruleIn s) ≤ mostCases → (before after : List ℤ) (r : Checked) → variableCount s ≤ length before → Checks mostNodes s before r after
     → (r ≡ Holds) ↔ AllHold (ruleIn s)
 
 -- and where it says that the rule fails, the first V numbers of the room are the first failing case
 abbrev pub FirstNamed : Type 0
 FirstNamed =
-    (s : List ℕ) → Sheet s → caseCount (ruleIn s) ≤ mostCases → (before after : List ℤ) → variableCount s ≤ length before → Checks s before Fails after
+    (s : List ℕ) → Sheet s → caseCount (ruleIn s) ≤ mostCases → (before after : List ℤ) → variableCount s ≤ length before → Checks mostNodes s before Fails after
     → FirstFailing (ruleIn s) (take (variableCount s) after)
 
 -- any bytes, any room: only a check that fails changes the room, and then nothing past V numbers
@@ -141,8 +141,8 @@ pub record ScriptRoom (f : Form) (s before : List ℕ) (r : Written) (after : Li
 abbrev pub RoomKept : Type 0
 RoomKept =
     (s : List ℕ)
-    → ((before after : List ℤ) (r : Checked) → Checks s before r after → CheckRoom s before r after)
-    × ((f : Form) (before after : List ℕ) (r : Written) → Writes f s before r after → ScriptRoom f s before r after)
+    → ((before after : List ℤ) (r : Checked) → Checks mostNodes s before r after → CheckRoom s before r after)
+    × ((f : Form) (before after : List ℕ) (r : Written) → Writes mostNodes f s before r after → ScriptRoom f s before r after)
 
 -- in no case does an operator leave 16 bits: each integer in the goal has a value in -32,768..32,767
 abbrev pub InSixteenBits : Type 0
@@ -186,7 +186,7 @@ MatchInBits = (models : Bool) (w : ℕ) → 1 ≤ w → (r : Rule) → WellForme
 -- up to 1,000,000 cases and with room for V numbers, the check reports a failing case exactly when some setting satisfies the script, and the case gives one
 abbrev pub CheckAgrees : Type 0
 CheckAgrees =
-    (models : Bool) (s : List ℕ) → Sheet s → caseCount (ruleIn s) ≤ mostCases → (before after : List ℤ) (r : Checked) → variableCount s ≤ length before → Checks s before r after
+    (models : Bool) (s : List ℕ) → Sheet s → caseCount (ruleIn s) ≤ mostCases → (before after : List ℤ) (r : Checked) → variableCount s ≤ length before → Checks mostNodes s before r after
     → ((r ≡ Fails) ↔ ((t : List ℕ) × Satisfies (script (sixteen models) (ruleIn s)) t))
     × (r ≡ Fails → Satisfies (script (sixteen models) (ruleIn s)) (settingOf 16 (take (variableCount s) after)))
 
@@ -197,7 +197,7 @@ pub record SettingsListed (text : List ℕ) (ts : List (List ℕ)) : Type 0 wher
 
 abbrev pub TallyAgrees : Type 0
 TallyAgrees =
-    (models : Bool) (s : List ℕ) → Sheet s → caseCount (ruleIn s) ≤ mostCases → (r : Tallied) → Tallies s r
+    (models : Bool) (s : List ℕ) → Sheet s → caseCount (ruleIn s) ≤ mostCases → (r : Tallied) → Tallies mostNodes s r
     → (ts : List (List ℕ)) × SettingsListed (script (sixteen models) (ruleIn s)) ts × (r .failed ≡ length ts)
 
 -- two accepted sheets with the same script, in one form, have one length, and differ in no byte but name lengths, names and block 0's check
@@ -208,13 +208,13 @@ SameScript =
 
 -- ---- replies (document 02, item 1): what is believed spells a failing case, and every spelling of every failing case is believed, whoever wrote it
 abbrev pub RepliesBelieved : Type 0
-RepliesBelieved = (s : List ℕ) → Sheet s → (reply : List ℕ) → Replies s reply Replied·Fails ↔ ((c : List ℤ) × Failing (ruleIn s) c × SpellsCase (variableCount s) reply c)
+RepliesBelieved = (s : List ℕ) → Sheet s → (reply : List ℕ) → Replies mostNodes s reply Replied·Fails ↔ ((c : List ℤ) × Failing (ruleIn s) c × SpellsCase (variableCount s) reply c)
 
 -- so, in either form, exactly the spellings of settings that satisfy the script are believed
 abbrev pub RepliesSatisfy : Type 0
 RepliesSatisfy =
     (models : Bool) (s : List ℕ) → Sheet s → (reply : List ℕ)
-    → Replies s reply Replied·Fails ↔ ((t : List ℕ) × Satisfies (script (sixteen models) (ruleIn s)) t × SpellsSetting (variableCount s) reply t)
+    → Replies mostNodes s reply Replied·Fails ↔ ((t : List ℕ) × Satisfies (script (sixteen models) (ruleIn s)) t × SpellsSetting (variableCount s) reply t)
 
 -- each failing case has a spelling
 abbrev pub CasesSpelled : Type 0
@@ -223,25 +223,25 @@ CasesSpelled = (s : List ℕ) → Sheet s → (c : List ℤ) → Failing (ruleIn
 -- the part that `digits` gives, read as a number in two's complement, is the variable's value; the part is empty unless `sat` is accepted and the variable listed
 abbrev pub DigitsRead : Type 0
 DigitsRead =
-    (s : List ℕ) (reply part : RefT (List ℕ)) (i : ℕ) → DigitsPart s reply i part
-    → ((c : List ℤ) → DigitsGiven s (reply .now) i → SpellsCase (variableCount s) (reply .now) c
+    (s : List ℕ) (reply part : RefT (List ℕ)) (i : ℕ) → DigitsPart mostNodes s reply i part
+    → ((c : List ℤ) → DigitsGiven mostNodes s (reply .now) i → SpellsCase (variableCount s) (reply .now) c
     → dec 16 (numberOf (digitsBase i (reply .now)) (map digitValue (part .now))) ≡ valueIn c i)
-    × ((length (part .now) ≡ 0) ↔ (DigitsGiven s (reply .now) i → ⊥))
+    × ((length (part .now) ≡ 0) ↔ (DigitsGiven mostNodes s (reply .now) i → ⊥))
 
 -- ---- each call: no second answer and no second room fits the predicate that its `ensures` names; of a returned part, bytes and place in memory are meant
 pub record OneAnswer : Type 0 where
-  pub read : (s : List ℕ) (r t : Reading) → saidOf r ≡ refusalOf s → saidOf t ≡ refusalOf s → r ≡ t
-  pub name : (sheet : RefT (List ℕ)) (variable : ℕ) (p q : RefT (List ℕ)) → NamePart sheet variable p → NamePart sheet variable q → SamePart p q
+  pub read : (s : List ℕ) (r t : Reading) → saidOf r ≡ refusalOf mostNodes s → saidOf t ≡ refusalOf mostNodes s → r ≡ t
+  pub name : (sheet : RefT (List ℕ)) (variable : ℕ) (p q : RefT (List ℕ)) → NamePart mostNodes sheet variable p → NamePart mostNodes sheet variable q → SamePart p q
   pub block : (sheet : RefT (List ℕ)) (k : ℕ) (p q : RefT (List ℕ)) → BlockPart sheet k p → BlockPart sheet k q → SamePart p q
-  pub check : (s : List ℕ) (before x y : List ℤ) (r t : Checked) → Checks s before r x → Checks s before t y → (r ≡ t) × (x ≡ y)
-  pub tally : (s : List ℕ) (r t : Tallied) → Tallies s r → Tallies s t → r ≡ t
-  pub write-script : (f : Form) (s before x y : List ℕ) (r t : Written) → Writes f s before r x → Writes f s before t y → (r ≡ t) × (x ≡ y)
-  pub reply : (s reply : List ℕ) (r t : Replied) → Replies s reply r → Replies s reply t → r ≡ t
-  pub reply-into : (s reply : List ℕ) (before x y : List ℤ) (r t : Replied) → RepliesInto s reply before r x → RepliesInto s reply before t y → (r ≡ t) × (x ≡ y)
-  pub digits : (s : List ℕ) (reply : RefT (List ℕ)) (variable : ℕ) (p q : RefT (List ℕ)) → DigitsPart s reply variable p → DigitsPart s reply variable q → SamePart p q
-  pub digits-span : (s reply : List ℕ) (variable a n b m : ℕ) → DigitsSpan s reply variable a n → DigitsSpan s reply variable b m → (a ≡ b) × (n ≡ m)
+  pub check : (s : List ℕ) (before x y : List ℤ) (r t : Checked) → Checks mostNodes s before r x → Checks mostNodes s before t y → (r ≡ t) × (x ≡ y)
+  pub tally : (s : List ℕ) (r t : Tallied) → Tallies mostNodes s r → Tallies mostNodes s t → r ≡ t
+  pub write-script : (f : Form) (s before x y : List ℕ) (r t : Written) → Writes mostNodes f s before r x → Writes mostNodes f s before t y → (r ≡ t) × (x ≡ y)
+  pub reply : (s reply : List ℕ) (r t : Replied) → Replies mostNodes s reply r → Replies mostNodes s reply t → r ≡ t
+  pub reply-into : (s reply : List ℕ) (before x y : List ℤ) (r t : Replied) → RepliesInto mostNodes s reply before r x → RepliesInto mostNodes s reply before t y → (r ≡ t) × (x ≡ y)
+  pub digits : (s : List ℕ) (reply : RefT (List ℕ)) (variable : ℕ) (p q : RefT (List ℕ)) → DigitsPart mostNodes s reply variable p → DigitsPart mostNodes s reply variable q → SamePart p q
+  pub digits-span : (s reply : List ℕ) (variable a n b m : ℕ) → DigitsSpan mostNodes s reply variable a n → DigitsSpan mostNodes s reply variable b m → (a ≡ b) × (n ≡ m)
   -- of the C interface; its other answers are equations
-  pub ragwashin-check : (s : List ℕ) (before x y : List ℤ) (r t : ℕ) → CheckCodes s before r x → CheckCodes s before t y → (r ≡ t) × (x ≡ y)
-  pub ragwashin-script : (f : Form) (s before x y : List ℕ) (r t : ℕ) → ScriptCodes f s before r x → ScriptCodes f s before t y → (r ≡ t) × (x ≡ y)
-  pub ragwashin-reply : (s reply : List ℕ) (r t : ℕ) → ReplyCodes s reply r → ReplyCodes s reply t → r ≡ t
-  pub ragwashin-digits : (s reply : List ℕ) (variable r t : ℕ) → DigitsCodes s reply variable r → DigitsCodes s reply variable t → r ≡ t
+  pub ragwashin-check : (s : List ℕ) (before x y : List ℤ) (r t : ℕ) → CheckCodes mostNodes s before r x → CheckCodes mostNodes s before t y → (r ≡ t) × (x ≡ y)
+  pub ragwashin-script : (f : Form) (s before x y : List ℕ) (r t : ℕ) → ScriptCodes mostNodes f s before r x → ScriptCodes mostNodes f s before t y → (r ≡ t) × (x ≡ y)
+  pub ragwashin-reply : (s reply : List ℕ) (r t : ℕ) → ReplyCodes mostNodes s reply r → ReplyCodes mostNodes s reply t → r ≡ t
+  pub ragwashin-digits : (s reply : List ℕ) (variable r t : ℕ) → DigitsCodes mostNodes s reply variable r → DigitsCodes mostNodes s reply variable t → r ≡ t

@@ -16,7 +16,7 @@ use Rattle.refusals.specs.declared.Refusal.{Refusal}
 use Rattle.numbers.specs.Bytes.{Bytes}
 use Rattle.meaning.specs.Cases.{firstFailure, held, failed}
 use Rattle.meaning.proofs.Failures.{first-fails}
-use Rattle.layout.specs.Limits.{mostVariables}
+use Rattle.layout.specs.Limits.{mostVariables, mostNodes}
 use Rattle.layout.specs.Parts.{variableCount, ruleIn}
 use Rattle.layout.proofs.PartLaws.{variable-total}
 use Rattle.refusals.specs.declared.Reading.{Reading}
@@ -74,52 +74,52 @@ refused t e = rw e
 pub wrote-from : {t u before same after : List ℕ} {at r : ℕ} → (same ≡ before) × (t ≡ u) → Wrote t same after at r → Wrote u before after at r
 wrote-from e w = rw (← e .0, ← e .1) w
 
-pub by-request : (s : List ℕ) {q k : Request} {before after : List ℕ} {r : ℕ} → q ≡ k → Wrote (answerText k s) before after 0 r → Wrote (answerText q s) before after 0 r × Counts r after
+pub by-request : (s : List ℕ) {q k : Request} {before after : List ℕ} {r : ℕ} → q ≡ k → Wrote (answerText mostNodes k s) before after 0 r → Wrote (answerText mostNodes q s) before after 0 r × Counts r after
 by-request s e w = (rw e w, counted w)
 
 module _ (s : List ℕ) where
   -- ---- the reading
-  module _ {a : Reading} (e : saidOf a ≡ refusalOf s) where
-    pub read-accepted : a ≡ Accepted → ascii "accepted\n" ≡ answerText Read s
+  module _ {a : Reading} (e : saidOf a ≡ refusalOf mostNodes s) where
+    pub read-accepted : a ≡ Accepted → ascii "accepted\n" ≡ answerText mostNodes Read s
     unfolding answerText
     read-accepted d = told (sym e ∙ ap saidOf d)
 
-    pub read-refused : {r : Refusal} → a ≡ Refused r → refusalLine r ≡ answerText Read s
+    pub read-refused : {r : Refusal} → a ≡ Refused r → refusalLine r ≡ answerText mostNodes Read s
     unfolding answerText
     read-refused d = refused _ (sym e ∙ ap saidOf d)
 
   -- ---- the script: `enoughRoom` bytes are always enough
-  module _ (models : Bool) {before after : List ℕ} (h : enoughRoom ≤ length before) {a : Written} (w : Writes (sixteen models) s before a after) where
-    script-refusal : scriptRefusal (sixteen models) s (length before) ≡ refusalOf s
+  module _ (models : Bool) {before after : List ℕ} (h : enoughRoom ≤ length before) {a : Written} (w : Writes mostNodes (sixteen models) s before a after) where
+    script-refusal : scriptRefusal mostNodes (sixteen models) s (length before) ≡ refusalOf mostNodes s
     unfolding scriptRefusal
-    script-refusal = go (refusalOf s) refl
+    script-refusal = go (refusalOf mostNodes s) refl
       where
-        go : (o : Option Refusal) → refusalOf s ≡ o → scriptRefusal (sixteen models) s (length before) ≡ refusalOf s
+        go : (o : Option Refusal) → refusalOf mostNodes s ≡ o → scriptRefusal mostNodes (sixteen models) s (length before) ≡ refusalOf mostNodes s
         go (some r) e = otherwise-some _ e ∙ sym e
         go none e = passes (length (script (sixteen models) (ruleIn s))) (length before) 9 (length (script (sixteen models) (ruleIn s))) e (omega (arith, script-short models s e)) ∙ sym e
 
-    pub script-written : {n : ℕ} → a ≡ written n → Wrote (scriptAnswer (sixteen models) s) before after 0 n
+    pub script-written : {n : ℕ} → a ≡ written n → Wrote (scriptAnswer mostNodes (sixteen models) s) before after 0 n
     unfolding scriptAnswer
-    script-written {n} d = go (refusalOf s) refl (sym (ap writtenSaid d) ∙ w .answer ∙ rw script-refusal) (w .room ∙ rw script-refusal)
+    script-written {n} d = go (refusalOf mostNodes s) refl (sym (ap writtenSaid d) ∙ w .answer ∙ rw script-refusal) (w .room ∙ rw script-refusal)
       where
-        go : (o : Option Refusal) → refusalOf s ≡ o → (none, n) ≡ scriptVerdict o (script (sixteen models) (ruleIn s)) → after ≡ scriptRoom o (script (sixteen models) (ruleIn s)) before → Wrote (answered (refusalOf s) (script (sixteen models) (ruleIn s))) before after 0 n
+        go : (o : Option Refusal) → refusalOf mostNodes s ≡ o → (none, n) ≡ scriptVerdict o (script (sixteen models) (ruleIn s)) → after ≡ scriptRoom o (script (sixteen models) (ruleIn s)) before → Wrote (answered (refusalOf mostNodes s) (script (sixteen models) (ruleIn s))) before after 0 n
         go none e p g = wrote-as (at-front (ap (λ (x : Option Refusal × ℕ). x .1) p) g) (told e)
         go (some r) e p g = absurd (Option·none-ne-some r (ap refusalIn p))
 
-    pub script-refused : {r : Refusal} → a ≡ writeRefused r → (after ≡ before) × (refusalLine r ≡ scriptAnswer (sixteen models) s)
+    pub script-refused : {r : Refusal} → a ≡ writeRefused r → (after ≡ before) × (refusalLine r ≡ scriptAnswer mostNodes (sixteen models) s)
     unfolding scriptAnswer
-    script-refused {r} d = go (refusalOf s) refl (sym (ap writtenSaid d) ∙ w .answer ∙ rw script-refusal) (w .room ∙ rw script-refusal)
+    script-refused {r} d = go (refusalOf mostNodes s) refl (sym (ap writtenSaid d) ∙ w .answer ∙ rw script-refusal) (w .room ∙ rw script-refusal)
       where
-        go : (o : Option Refusal) → refusalOf s ≡ o → (some r, 0) ≡ scriptVerdict o (script (sixteen models) (ruleIn s)) → after ≡ scriptRoom o (script (sixteen models) (ruleIn s)) before → (after ≡ before) × (refusalLine r ≡ answered (refusalOf s) (script (sixteen models) (ruleIn s)))
+        go : (o : Option Refusal) → refusalOf mostNodes s ≡ o → (some r, 0) ≡ scriptVerdict o (script (sixteen models) (ruleIn s)) → after ≡ scriptRoom o (script (sixteen models) (ruleIn s)) before → (after ≡ before) × (refusalLine r ≡ answered (refusalOf mostNodes s) (script (sixteen models) (ruleIn s)))
         go none e p g = absurd (Option·some-ne-none r (ap refusalIn p))
         go (some q) e p g = (g, refused _ (e ∙ sym (ap refusalIn p)))
 
   -- the two requests for a script
-  pub script-request : {before after : List ℕ} {n : ℕ} → Wrote (scriptAnswer (sixteen false) s) before after 0 n → Wrote (answerText Script s) before after 0 n
+  pub script-request : {before after : List ℕ} {n : ℕ} → Wrote (scriptAnswer mostNodes (sixteen false) s) before after 0 n → Wrote (answerText mostNodes Script s) before after 0 n
   unfolding answerText
   script-request w = w
 
-  pub ask-request : {before after : List ℕ} {n : ℕ} → Wrote (scriptAnswer (sixteen true) s) before after 0 n → Wrote (answerText Ask s) before after 0 n
+  pub ask-request : {before after : List ℕ} {n : ℕ} → Wrote (scriptAnswer mostNodes (sixteen true) s) before after 0 n → Wrote (answerText mostNodes Ask s) before after 0 n
   unfolding answerText
   ask-request w = w
 
@@ -127,35 +127,35 @@ module _ (s : List ℕ) where
   case-length : {c : List ℤ} → firstFailure (ruleIn s) ≡ some c → length c ≡ variableCount s
   case-length q = first-fails (ruleIn s) q .0 .all ∙ variable-total s
 
-  module _ {after : List ℤ} {a : Checked} (w : Checks s (replicate mostVariables (pos 0)) a after) where
-    check-refusal : checkRefusal s mostVariables ≡ tryRefusal s
+  module _ {after : List ℤ} {a : Checked} (w : Checks mostNodes s (replicate mostVariables (pos 0)) a after) where
+    check-refusal : checkRefusal mostNodes s mostVariables ≡ tryRefusal mostNodes s
     unfolding checkRefusal
-    check-refusal = go (tryRefusal s) refl
+    check-refusal = go (tryRefusal mostNodes s) refl
       where
-        go : (o : Option Refusal) → tryRefusal s ≡ o → checkRefusal s mostVariables ≡ tryRefusal s
+        go : (o : Option Refusal) → tryRefusal mostNodes s ≡ o → checkRefusal mostNodes s mostVariables ≡ tryRefusal mostNodes s
         go (some r) e = otherwise-some _ e ∙ sym e
         go none e = passes (variableCount s) mostVariables 9 (variableCount s) e (tried-inside s e .1) ∙ sym e
 
     -- what the check says, by the refusal and the first failing case
-    said : {t : Checked} → a ≡ t → checkedSaid t ≡ verdict (tryRefusal s) (firstFailure (ruleIn s))
+    said : {t : Checked} → a ≡ t → checkedSaid t ≡ verdict (tryRefusal mostNodes s) (firstFailure (ruleIn s))
     said d = sym (ap checkedSaid d) ∙ w .answer ∙ rw check-refusal
 
-    row-is : after ≡ roomAfter (tryRefusal s) (firstFailure (ruleIn s)) (replicate mostVariables (pos 0))
+    row-is : after ≡ roomAfter (tryRefusal mostNodes s) (firstFailure (ruleIn s)) (replicate mostVariables (pos 0))
     row-is = w .room ∙ rw check-refusal
 
-    pub check-refused : {r : Refusal} → a ≡ checkRefused r → refusalLine r ≡ answerText Check s
+    pub check-refused : {r : Refusal} → a ≡ checkRefused r → refusalLine r ≡ answerText mostNodes Check s
     unfolding answerText
-    check-refused {r} d = go (tryRefusal s) (firstFailure (ruleIn s)) refl (said d)
+    check-refused {r} d = go (tryRefusal mostNodes s) (firstFailure (ruleIn s)) refl (said d)
       where
-        go : (o : Option Refusal) (f : Option (List ℤ)) → tryRefusal s ≡ o → (some r, false) ≡ verdict o f → refusalLine r ≡ answered (tryRefusal s) (checkLine (ruleIn s) (firstFailure (ruleIn s)))
+        go : (o : Option Refusal) (f : Option (List ℤ)) → tryRefusal mostNodes s ≡ o → (some r, false) ≡ verdict o f → refusalLine r ≡ answered (tryRefusal mostNodes s) (checkLine (ruleIn s) (firstFailure (ruleIn s)))
         go none f e p = absurd (Option·some-ne-none r (ap refusalIn p))
         go (some q) f e p = refused _ (e ∙ sym (ap refusalIn p))
 
-    pub check-holds : a ≡ Holds → ascii "holds\n" ≡ answerText Check s
+    pub check-holds : a ≡ Holds → ascii "holds\n" ≡ answerText mostNodes Check s
     unfolding answerText checkLine
-    check-holds d = go (tryRefusal s) (firstFailure (ruleIn s)) refl refl (said d)
+    check-holds d = go (tryRefusal mostNodes s) (firstFailure (ruleIn s)) refl refl (said d)
       where
-        go : (o : Option Refusal) (f : Option (List ℤ)) → tryRefusal s ≡ o → firstFailure (ruleIn s) ≡ f → (none, false) ≡ verdict o f → ascii "holds\n" ≡ answered (tryRefusal s) (checkLine (ruleIn s) (firstFailure (ruleIn s)))
+        go : (o : Option Refusal) (f : Option (List ℤ)) → tryRefusal mostNodes s ≡ o → firstFailure (ruleIn s) ≡ f → (none, false) ≡ verdict o f → ascii "holds\n" ≡ answered (tryRefusal mostNodes s) (checkLine (ruleIn s) (firstFailure (ruleIn s)))
         go none none e q p = ap (checkLine (ruleIn s)) (sym q) ∙ told e
         go none (some c) e q p = absurd (true≢false (sym (ap (λ (x : Option Refusal × Bool). x .1) p)))
         go (some r) f e q p = absurd (Option·none-ne-some r (ap refusalIn p))
@@ -163,13 +163,13 @@ module _ (s : List ℕ) where
     -- the first failing case, where the check fails
     record Found : Type 0 where
       case : List ℤ
-      tried : tryRefusal s ≡ none
+      tried : tryRefusal mostNodes s ≡ none
       first : firstFailure (ruleIn s) ≡ some case
 
     found : a ≡ Fails → Found
-    found d = go (tryRefusal s) (firstFailure (ruleIn s)) refl refl (said d)
+    found d = go (tryRefusal mostNodes s) (firstFailure (ruleIn s)) refl refl (said d)
       where
-        go : (o : Option Refusal) (f : Option (List ℤ)) → tryRefusal s ≡ o → firstFailure (ruleIn s) ≡ f → (none, true) ≡ verdict o f → Found
+        go : (o : Option Refusal) (f : Option (List ℤ)) → tryRefusal mostNodes s ≡ o → firstFailure (ruleIn s) ≡ f → (none, true) ≡ verdict o f → Found
         go none none e q p = absurd (true≢false (ap (λ (x : Option Refusal × Bool). x .1) p))
         go none (some c) e q p = record { case = c; tried = e; first = q }
         go (some r) f e q p = absurd (Option·none-ne-some r (ap refusalIn p))
@@ -190,18 +190,18 @@ module _ (s : List ℕ) where
             narrow = λ i h. rw (← getD-take (variableCount s) after i (pos 0) h, case-is) (case-narrow s b (first-fails (ruleIn s) (k .first) .0) i);
           }
 
-      pub check-fails : failsLine s after ≡ answerText Check s
+      pub check-fails : failsLine s after ≡ answerText mostNodes Check s
       unfolding answerText failing checkLine failsLine
       check-fails =
           let k = found d in
           ap (λ (l : List ℕ). ascii "fails" ++ l ++ ascii "\n") (nameValues-are s after case-is (case-length (k .first))) ∙ ap (checkLine (ruleIn s)) (sym (k .first)) ∙ told (k .tried)
 
   -- ---- the tally
-  module _ {t : Tallied} (w : Tallies s t) where
-    tallied : t .reading ≡ Accepted → tryRefusal s ≡ none
+  module _ {t : Tallied} (w : Tallies mostNodes s t) where
+    tallied : t .reading ≡ Accepted → tryRefusal mostNodes s ≡ none
     tallied d = sym (w .answer) ∙ ap saidOf d
 
-    pub tally-accepted : t .reading ≡ Accepted → numbersLine (ascii "held ") (t .held) (ascii " failed ") (t .failed) ≡ answerText Tally s
+    pub tally-accepted : t .reading ≡ Accepted → numbersLine (ascii "held ") (t .held) (ascii " failed ") (t .failed) ≡ answerText mostNodes Tally s
     unfolding answerText
     tally-accepted d =
         let e = tallied d in
@@ -209,6 +209,6 @@ module _ (s : List ℕ) where
         let f : t .failed ≡ failed (ruleIn s) = w .failed-count ∙ rw e in
         rw (h, f) (told e)
 
-    pub tally-refused : {r : Refusal} → t .reading ≡ Refused r → refusalLine r ≡ answerText Tally s
+    pub tally-refused : {r : Refusal} → t .reading ≡ Refused r → refusalLine r ≡ answerText mostNodes Tally s
     unfolding answerText
     tally-refused d = refused _ (sym (w .answer) ∙ ap saidOf d)

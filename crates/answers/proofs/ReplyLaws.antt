@@ -11,6 +11,7 @@ use Rattle.lists.specs.Ascii.{ascii}
 use Rattle.refusals.specs.declared.Refusal.{Refusal}
 use Rattle.numbers.specs.Bytes.{Bytes}
 use Rattle.meaning.specs.Cases.{Failing}
+use Rattle.layout.specs.Limits.{mostNodes}
 use Rattle.layout.specs.Parts.{variableCount, ruleIn}
 use Rattle.layout.proofs.PartLaws.{variable-total}
 use Rattle.odometer.proofs.Domains.{case-narrow}
@@ -29,7 +30,7 @@ use Rattle.answers.specs.Answers.{failing}
 use Rattle.answers.specs.Replies.{replyLine, WroteReply}
 use Rattle.answers.proofs.AnswerLaws.{counted}
 
-module _ (s reply : List ℕ) {before after : List ℤ} {a : Replied} (w : RepliesInto s reply before a after) where
+module _ (s reply : List ℕ) {before after : List ℤ} {a : Replied} (w : RepliesInto mostNodes s reply before a after) where
   -- ---- the failing case, and the row that it is left in
   module _ (d : a ≡ Fails) where
     told : (c : List ℤ) × SpellsCase (variableCount s) reply c × Failing (ruleIn s) c
@@ -38,8 +39,8 @@ module _ (s reply : List ℕ) {before after : List ℤ} {a : Replied} (w : Repli
     left : (c : List ℤ) × SpellsCase (variableCount s) reply c × (after ≡ c ++ drop (variableCount s) before)
     left = subst (λ (r : Replied). CaseRoom s reply before r after) d (w .room)
 
-    believed : Replies s reply Fails
-    believed = subst (Replies s reply) d (w .answer)
+    believed : Replies mostNodes s reply Fails
+    believed = subst (Replies mostNodes s reply) d (w .answer)
 
     case-length : length (told .0) ≡ variableCount s
     case-length = told .2 .0 .all ∙ variable-total s
@@ -57,7 +58,7 @@ module _ (s reply : List ℕ) {before after : List ℤ} {a : Replied} (w : Repli
 
   -- ---- the line that is written
   module _ {x y : List ℕ} {n : ℕ} where
-    pub reply-fails : a ≡ Fails → Wrote (failsLine s after) x y 0 n → WroteReply s reply x y n × Counts n y
+    pub reply-fails : a ≡ Fails → Wrote (failsLine s after) x y 0 n → WroteReply mostNodes s reply x y n × Counts n y
     unfolding failing failsLine
     reply-fails d g = (
       record {
@@ -71,11 +72,11 @@ module _ (s reply : List ℕ) {before after : List ℤ} {a : Replied} (w : Repli
     )
 
     -- what spells no case
-    reply-other : {b : Replied} → (b ≡ Fails → ⊥) → a ≡ b → Wrote (replyLine (ruleIn s) [] b) x y 0 n → WroteReply s reply x y n × Counts n y
-    reply-other {b} f d g = (record { answer = b; replies = subst (Replies s reply) d (w .answer); case = []; spelled = λ e. absurd (f e); wrote = g }, counted g)
+    reply-other : {b : Replied} → (b ≡ Fails → ⊥) → a ≡ b → Wrote (replyLine (ruleIn s) [] b) x y 0 n → WroteReply mostNodes s reply x y n × Counts n y
+    reply-other {b} f d g = (record { answer = b; replies = subst (Replies mostNodes s reply) d (w .answer); case = []; spelled = λ e. absurd (f e); wrote = g }, counted g)
 
-    pub reply-unsat : a ≡ Unsat → Wrote (ascii "unsat claimed\n") x y 0 n → WroteReply s reply x y n × Counts n y
+    pub reply-unsat : a ≡ Unsat → Wrote (ascii "unsat claimed\n") x y 0 n → WroteReply mostNodes s reply x y n × Counts n y
     reply-unsat = reply-other (λ e. let z : _≡_ {A = ℕ} 0 1 = cc in omega arith)
 
-    pub reply-refused : {r : Refusal} → a ≡ Refused r → Wrote (refusalLine r) x y 0 n → WroteReply s reply x y n × Counts n y
+    pub reply-refused : {r : Refusal} → a ≡ Refused r → Wrote (refusalLine r) x y 0 n → WroteReply mostNodes s reply x y n × Counts n y
     reply-refused = reply-other (λ e. let z : _≡_ {A = ℕ} 0 1 = cc in omega arith)

@@ -3,6 +3,7 @@ use Prim.Native.Nat.{ℕ}
 use mathlib.Core.Path.{_≡_, refl, sym, ap, _∙_}
 use mathlib.Core.List.{List}
 use lib.IntN.{ℤ}
+use Rattle.layout.specs.Limits.{mostNodes}
 use Rattle.layout.specs.Parts.{variableCount, ruleIn}
 use Rattle.replies.specs.Says.{SpellsCase}
 use Rattle.replies.proofs.Unique.{one-case}
@@ -15,7 +16,7 @@ use Rattle.answers.specs.declared.Request.{Request}
 use Rattle.answers.specs.Answers.{failing, answerText}
 use Rattle.answers.specs.Replies.{replyLine, WroteReply}
 
-pub answer-once : (q : Request) (s before : List ℕ) {x y : List ℕ} {r t : ℕ} → Wrote (answerText q s) before x 0 r → Wrote (answerText q s) before y 0 t → (r ≡ t) × (x ≡ y)
+pub answer-once : (q : Request) (s before : List ℕ) {x y : List ℕ} {r t : ℕ} → Wrote (answerText mostNodes q s) before x 0 r → Wrote (answerText mostNodes q s) before y 0 t → (r ≡ t) × (x ≡ y)
 answer-once q s before w v = (w .place ∙ sym (v .place), w .room ∙ sym (v .room))
 
 -- one line fits what a reply comes to
@@ -24,7 +25,7 @@ same-line s reply Unsat p q = refl
 same-line s reply Fails p q = ap (failing (ruleIn s)) (one-case (p refl) (q refl))
 same-line s reply (Refused e) p q = refl
 
-pub reply-answer-once : (s reply before : List ℕ) {x y : List ℕ} {r t : ℕ} → WroteReply s reply before x r → WroteReply s reply before y t → (r ≡ t) × (x ≡ y)
+pub reply-answer-once : (s reply before : List ℕ) {x y : List ℕ} {r t : ℕ} → WroteReply mostNodes s reply before x r → WroteReply mostNodes s reply before y t → (r ≡ t) × (x ≡ y)
 reply-answer-once s reply before w v =
     let a : w .answer ≡ v .answer = reply-once (w .replies) (v .replies) in
     let e : replyLine (ruleIn s) (w .case) (w .answer) ≡ replyLine (ruleIn s) (v .case) (v .answer) = same-line s reply (w .answer) (w .spelled) (λ f. v .spelled (sym a ∙ f)) ∙ ap (replyLine (ruleIn s) (v .case)) a in

@@ -31,13 +31,13 @@ checkLine r none = ascii "holds\n"
 checkLine r (some c) = failing r c
 
 -- the script in a form
-unfoldable pub scriptAnswer : Form → List ℕ → List ℕ
-scriptAnswer f s = answered (refusalOf s) (script f (ruleIn s))
+unfoldable pub scriptAnswer : ℕ → Form → List ℕ → List ℕ
+scriptAnswer limit f s = answered (refusalOf limit s) (script f (ruleIn s))
 
 -- the answer to a request about the sheet s
-unfoldable pub answerText : Request → List ℕ → List ℕ
-answerText Read s = answered (refusalOf s) (ascii "accepted\n")
-answerText Script s = scriptAnswer (sixteen false) s
-answerText Ask s = scriptAnswer (sixteen true) s
-answerText Check s = answered (tryRefusal s) (checkLine (ruleIn s) (firstFailure (ruleIn s)))
-answerText Tally s = answered (tryRefusal s) (numbersLine (ascii "held ") (held (ruleIn s)) (ascii " failed ") (failed (ruleIn s)))
+unfoldable pub answerText : ℕ → Request → List ℕ → List ℕ
+answerText limit Read s = answered (refusalOf limit s) (ascii "accepted\n")
+answerText limit Script s = scriptAnswer limit (sixteen false) s
+answerText limit Ask s = scriptAnswer limit (sixteen true) s
+answerText limit Check s = answered (tryRefusal limit s) (checkLine (ruleIn s) (firstFailure (ruleIn s)))
+answerText limit Tally s = answered (tryRefusal limit s) (numbersLine (ascii "held ") (held (ruleIn s)) (ascii " failed ") (failed (ruleIn s)))

@@ -21,9 +21,9 @@ replyLine r c Fails = failing r c
 replyLine r c (Refused q) = refusalLine q
 
 -- such a line about the reply, at the room's front
-pub record WroteReply (s reply before after : List ℕ) (n : ℕ) : Type 0 where
+pub record WroteReply (limit : ℕ) (s reply before after : List ℕ) (n : ℕ) : Type 0 where
   pub answer : Replied
-  pub replies : Replies s reply answer
+  pub replies : Replies limit s reply answer
   pub case : List ℤ
   pub spelled : answer ≡ Fails → SpellsCase (variableCount s) reply case
   pub wrote : Wrote (replyLine (ruleIn s) case answer) before after 0 n

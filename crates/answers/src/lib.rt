@@ -1,6 +1,7 @@
 // The answer to a request about a sheet, written into lent room: one line, or the script.
 ghost use Prim.Native.Nat.{_≤_};
 ghost use lib.ListN.{length};
+ghost use Rattle.layout.specs.Limits.{mostNodes};
 ghost use Rattle.io.specs.Counts.{Counts};
 ghost use Rattle.room.specs.Room.{Wrote};
 ghost use Rattle.writer.specs.Writes.{enoughRoom};
@@ -27,7 +28,7 @@ pub enum Request {
 // Accepted, or the refusal.
 fn read_answer(sheet: &[u8], room: &mut [u8]) -> usize
     requires { ⌜ enoughRoom ≤ length (now room) ⌝ }
-    ensures { λ r. ⌜ Wrote (answerText Read (now (sheet .entry))) (now (room .entry)) (now (room .exit)) 0 r ⌝ }
+    ensures { λ r. ⌜ Wrote (answerText mostNodes Read (now (sheet .entry))) (now (room .entry)) (now (room .exit)) 0 r ⌝ }
 {
     match reading::read(sheet) {
         Reading::Accepted => room::put(room, 0, b"accepted\n"),
@@ -38,7 +39,7 @@ fn read_answer(sheet: &[u8], room: &mut [u8]) -> usize
 // The script, or the refusal; no script is longer than the room.
 fn script_answer(sheet: &[u8], form: ScriptForm, room: &mut [u8]) -> usize
     requires { ⌜ enoughRoom ≤ length (now room) ⌝ }
-    ensures { λ r. ⌜ Wrote (scriptAnswer (formOf form) (now (sheet .entry))) (now (room .entry)) (now (room .exit)) 0 r ⌝ }
+    ensures { λ r. ⌜ Wrote (scriptAnswer mostNodes (formOf form) (now (sheet .entry))) (now (room .entry)) (now (room .exit)) 0 r ⌝ }
 {
     match writer::write_script(sheet, form, room) {
         Written::Script(size) => size,
@@ -49,7 +50,7 @@ fn script_answer(sheet: &[u8], form: ScriptForm, room: &mut [u8]) -> usize
 // What a check says: that the rule holds, the first case in which it fails, or the refusal.
 fn check_answer(sheet: &[u8], room: &mut [u8]) -> usize
     requires { ⌜ enoughRoom ≤ length (now room) ⌝ }
-    ensures { λ r. ⌜ Wrote (answerText Check (now (sheet .entry))) (now (room .entry)) (now (room .exit)) 0 r ⌝ }
+    ensures { λ r. ⌜ Wrote (answerText mostNodes Check (now (sheet .entry))) (now (room .entry)) (now (room .exit)) 0 r ⌝ }
 {
     let mut row = [0i16; MOST_VARIABLES];
     match cases::check(sheet, &mut row) {
@@ -62,7 +63,7 @@ fn check_answer(sheet: &[u8], room: &mut [u8]) -> usize
 // How many cases held and failed, or the refusal.
 fn tally_answer(sheet: &[u8], room: &mut [u8]) -> usize
     requires { ⌜ enoughRoom ≤ length (now room) ⌝ }
-    ensures { λ r. ⌜ Wrote (answerText Tally (now (sheet .entry))) (now (room .entry)) (now (room .exit)) 0 r ⌝ }
+    ensures { λ r. ⌜ Wrote (answerText mostNodes Tally (now (sheet .entry))) (now (room .entry)) (now (room .exit)) 0 r ⌝ }
 {
     let tally = cases::tally(sheet);
     let reading = tally.reading;
@@ -83,7 +84,7 @@ fn tally_answer(sheet: &[u8], room: &mut [u8]) -> usize
 // The answer to a request about a sheet, at the front of the room; how many bytes it has.
 pub fn answer(request: Request, sheet: &[u8], room: &mut [u8]) -> usize
     requires { ⌜ enoughRoom ≤ length (now room) ⌝ }
-    ensures { λ r. ⌜ Wrote (answerText request (now (sheet .entry))) (now (room .entry)) (now (room .exit)) 0 r ⌝ }
+    ensures { λ r. ⌜ Wrote (answerText mostNodes request (now (sheet .entry))) (now (room .entry)) (now (room .exit)) 0 r ⌝ }
     ensures { λ r. ⌜ Counts r (now (room .exit)) ⌝ }
 {
     match request {
@@ -98,7 +99,7 @@ pub fn answer(request: Request, sheet: &[u8], room: &mut [u8]) -> usize
 // What a solver's reply comes to: that unsat is claimed, the failing case, or the refusal; at the front of the room.
 pub fn reply_answer(sheet: &[u8], reply: &[u8], room: &mut [u8]) -> usize
     requires { ⌜ enoughRoom ≤ length (now room) ⌝ }
-    ensures { λ r. ⌜ WroteReply (now (sheet .entry)) (now (reply .entry)) (now (room .entry)) (now (room .exit)) r ⌝ }
+    ensures { λ r. ⌜ WroteReply mostNodes (now (sheet .entry)) (now (reply .entry)) (now (room .entry)) (now (room .exit)) r ⌝ }
     ensures { λ r. ⌜ Counts r (now (room .exit)) ⌝ }
 {
     let mut row = [0i16; MOST_VARIABLES];

@@ -11,7 +11,7 @@ use borrow.Author.Tests.{eqb-true, ne-eqb}
 use lib.ListN.{length, set, length-take, length-drop, length-set}
 use lib.Seq.{drop-set-lt, drop-set-add, take-set-le, take-set-lt, getD-set-same, getD-set-other, getD-take, getD-drop}
 use Rattle.numbers.specs.Bytes.{byteLimit, byteAt, Bytes}
-use Rattle.layout.specs.Limits.{blockBytes, contentBytes}
+use Rattle.layout.specs.Limits.{blockBytes, contentBytes, mostNodes}
 use Rattle.layout.specs.Checks.{weighted, checkOf, content, storedCheck, blockRight}
 use Rattle.blocks.specs.Early.{early}
 use Rattle.blocks.proofs.CheckLaws.{weighted-set}
@@ -101,14 +101,14 @@ module _ (s : List ℕ) (k i b : ℕ) where
             let le : contentBytes ≤ i = omega arith in
             stored-differs le h (sym e ∙ ap (checkOf k) (content-out le) ∙ was)
 
-pub one-byte : (s : List ℕ) → Bytes s → early s ≡ none → (j b : ℕ) → j < length s → b < byteLimit → (b ≡ byteAt s j → ⊥) → early (set s j b) ≡ some (record { number = 2; place = j / blockBytes })
+pub one-byte : (s : List ℕ) → Bytes s → early mostNodes s ≡ none → (j b : ℕ) → j < length s → b < byteLimit → (b ≡ byteAt s j → ⊥) → early mostNodes (set s j b) ≡ some (record { number = 2; place = j / blockBytes })
 one-byte s bytes passed j b inside byte new =
     let k : ℕ = j / blockBytes in
     let i : ℕ = j % blockBytes in
     let there : blockBytes * k + i ≡ j = div-add-mod j blockBytes in
-    let right = early-none s passed in
-    let whole = right-length (length s) (right .0) in
-    early-lowest (set s j b) (rw length-set (right .0))
+    let right = early-none mostNodes s passed in
+    let whole = right-length mostNodes (length s) (right .0) in
+    early-lowest mostNodes (set s j b) (rw length-set (right .0))
     (record {
       inside = rw length-set (omega arith);
       wrong =

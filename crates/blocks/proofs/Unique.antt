@@ -9,6 +9,7 @@ use Rattle.lists.proofs.PartLaws.{where-once}
 use Rattle.refusals.specs.declared.Reading.{Reading}
 use Rattle.refusals.specs.Said.{saidOf}
 use Rattle.refusals.proofs.SaidLaws.{said-once}
+use Rattle.layout.specs.Limits.{mostNodes}
 use Rattle.blocks.specs.Block.{BlockPart}
 use Rattle.blocks.specs.Early.{early}
 use Rattle.blocks.proofs.BlockLaws.{given-decided}
@@ -16,5 +17,5 @@ use Rattle.blocks.proofs.BlockLaws.{given-decided}
 pub block-once : (sheet : RefT (List ℕ)) (k : ℕ) (p q : RefT (List ℕ)) → BlockPart sheet k p → BlockPart sheet k q → SamePart p q
 block-once sheet k p q h g = where-once (decided (given-decided (sheet .now) k)) h g
 
-pub read-blocks-once : (s : List ℕ) (r t : Reading) → saidOf r ≡ early s → saidOf t ≡ early s → r ≡ t
+pub read-blocks-once : (s : List ℕ) (r t : Reading) → saidOf r ≡ early mostNodes s → saidOf t ≡ early mostNodes s → r ≡ t
 read-blocks-once s r t = said-once r t

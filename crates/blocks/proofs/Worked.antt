@@ -12,7 +12,7 @@ use Rattle.lists.specs.Places.{allBelow}
 use Rattle.lists.specs.First.{first}
 use Rattle.lists.proofs.TestLaws.{all-true}
 use Rattle.numbers.specs.Bytes.{byteLimit, mostByte, byteAt, pair, Bytes}
-use Rattle.layout.specs.Limits.{blockBytes, contentBytes}
+use Rattle.layout.specs.Limits.{blockBytes, contentBytes, mostNodes}
 use Rattle.layout.specs.Checks.{weighted, checkOf, blockRight}
 use Rattle.blocks.specs.Early.{lengthRight, early}
 use Rattle.blocks.proofs.Change.{one-byte}
@@ -43,14 +43,14 @@ worked-bytes j = go (decLt j blockBytes)
         let l : length workedSheet ≤ j = omega arith in
         rw (List·getD-eq-default workedSheet 0 l) (omega arith)
 
-pub worked-passes : early workedSheet ≡ none
+pub worked-passes : early mostNodes workedSheet ≡ none
 unfolding early lengthRight first blockRight checkOf weighted
 worked-passes = refl
 
-pub worked-changed : (j b : ℕ) → j < blockBytes → b < byteLimit → (b ≡ byteAt workedSheet j → ⊥) → early (set workedSheet j b) ≡ some (record { number = 2; place = 0 })
+pub worked-changed : (j b : ℕ) → j < blockBytes → b < byteLimit → (b ≡ byteAt workedSheet j → ⊥) → early mostNodes (set workedSheet j b) ≡ some (record { number = 2; place = 0 })
 worked-changed j b h hb new =
     let z : j / blockBytes ≡ 0 = omega arith in
     rw z at (one-byte workedSheet worked-bytes worked-passes j b h hb new)
 
-pub worked-changed-0 : early (set workedSheet 0 2) ≡ some (record { number = 2; place = 0 })
+pub worked-changed-0 : early mostNodes (set workedSheet 0 2) ≡ some (record { number = 2; place = 0 })
 worked-changed-0 = worked-changed 0 2 (omega arith) (omega arith) (λ e. omega arith)

@@ -3,7 +3,7 @@ ghost use mathlib.Core.Path.{_≡_};
 ghost use Prim.Native.Nat.{_+_, _*_, _≤_, _<_, _^_};
 ghost use lib.ListN.{length, take};
 ghost use Rattle.numbers.specs.Bytes.{byteAt};
-ghost use Rattle.layout.specs.Limits.{blockBytes, contentBytes};
+ghost use Rattle.layout.specs.Limits.{blockBytes, contentBytes, mostNodes};
 ghost use Rattle.layout.specs.Checks.{weighted, checkOf, blockRight, Inside};
 ghost use Rattle.refusals.specs.Said.{saidOf};
 ghost use Rattle.blocks.specs.Block.{BlockPart};
@@ -109,7 +109,7 @@ fn checks(sheet: &[u8]) -> Reading
 
 // Refusals 1 and 2.
 pub fn read_blocks(sheet: &[u8]) -> Reading
-    ensures { λ r. ⌜ saidOf r ≡ early (now (sheet .entry)) ⌝ }
+    ensures { λ r. ⌜ saidOf r ≡ early mostNodes (now (sheet .entry)) ⌝ }
 {
     let n = sheet.len();
     if n == 0 {

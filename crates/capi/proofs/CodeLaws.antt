@@ -44,11 +44,11 @@ code-tells (some r) n refused answered =
     ap₂ saidBy q m ∙ said-refused (r .number) (r .place) (h .0)
 
 -- ---- read
-module _ (s : List ℕ) {a : Reading} (e : saidOf a ≡ refusalOf s) where
-  pub accepted-code : a ≡ Accepted → 0 ≡ readCode s
+module _ (s : List ℕ) {a : Reading} (e : saidOf a ≡ refusalOf mostNodes s) where
+  pub accepted-code : a ≡ Accepted → 0 ≡ readCode mostNodes s
   accepted-code d = ap (λ (o : Option Refusal). codeOf o 0) (sym (ap saidOf d) ∙ e)
 
-  pub refused-code : {r : Refusal} → a ≡ Refused r → refusalCode r ≡ readCode s
+  pub refused-code : {r : Refusal} → a ≡ Refused r → refusalCode r ≡ readCode mostNodes s
   refused-code d = ap (λ (o : Option Refusal). codeOf o 0) (sym (ap saidOf d) ∙ e)
 
   pub place-small : {r : Refusal} → a ≡ Refused r → r .place < mostNodes
@@ -58,46 +58,46 @@ nothing : (o : Option Refusal) → unlessRefused o 0 ≡ 0
 nothing none = refl
 nothing (some r) = refl
 
-pub read-tells : (s : List ℕ) → codeSaid (readCode s) ≡ (refusalOf s, 0)
-read-tells s = code-tells (refusalOf s) 0 small (λ e. omega arith) ∙ ap (λ (n : ℕ). (refusalOf s, n)) (nothing (refusalOf s))
+pub read-tells : (s : List ℕ) → codeSaid (readCode mostNodes s) ≡ (refusalOf mostNodes s, 0)
+read-tells s = code-tells (refusalOf mostNodes s) 0 small (λ e. omega arith) ∙ ap (λ (n : ℕ). (refusalOf mostNodes s, n)) (nothing (refusalOf mostNodes s))
   where
-    small : (r : Refusal) → refusalOf s ≡ some r → (1 ≤ r .number) × (r .place < 2 ^ 48)
+    small : (r : Refusal) → refusalOf mostNodes s ≡ some r → (1 ≤ r .number) × (r .place < 2 ^ 48)
     small r e = let b = refusal-small s e in (b .some-number, omega (arith, b .low-place))
 
 -- ---- name
 module _ (s : List ℕ) (i : ℕ) where
-  given-code : NameGiven s i → nameCode s i ≡ (variablePlace i + nameStart) * 65536 + nameSize s (variablePlace i)
+  given-code : NameGiven mostNodes s i → nameCode mostNodes s i ≡ (variablePlace i + nameStart) * 65536 + nameSize s (variablePlace i)
   given-code g = rw (g .0, lt-ltb i (variableCount s) (g .1))
 
-  absent-code : (NameGiven s i → ⊥) → nameCode s i ≡ 0
-  absent-code f = go (refusalOf s) refl
+  absent-code : (NameGiven mostNodes s i → ⊥) → nameCode mostNodes s i ≡ 0
+  absent-code f = go (refusalOf mostNodes s) refl
     where
-      go : (o : Option Refusal) → refusalOf s ≡ o → nameCode s i ≡ 0
+      go : (o : Option Refusal) → refusalOf mostNodes s ≡ o → nameCode mostNodes s i ≡ 0
       go none e = rw (e, le-ltb i (variableCount s) (elim (decLt i (variableCount s)) [ yes l ↦ absurd (f (e, l)) | no l ↦ omega arith ]))
       go (some r) e = rw e
 
 -- the part that `name` hands back: as long as its size, and where the code says
-module _ {sheet part : RefT (List ℕ)} (i : ℕ) (p : NamePart sheet i part) where
-  given-length : NameGiven (sheet .now) i → length (part .now) ≡ nameSize (sheet .now) (variablePlace i)
+module _ {sheet part : RefT (List ℕ)} (i : ℕ) (p : NamePart mostNodes sheet i part) where
+  given-length : NameGiven mostNodes (sheet .now) i → length (part .now) ≡ nameSize (sheet .now) (variablePlace i)
   given-length g = part-size (p .given g) (given-name (sheet .now) i g .inside)
 
-  absent-length : (NameGiven (sheet .now) i → ⊥) → length (part .now) ≡ 0
+  absent-length : (NameGiven mostNodes (sheet .now) i → ⊥) → length (part .now) ≡ 0
   absent-length f = part-size (p .absent f) (omega arith)
 
-  pub no-name : length (part .now) ≡ 0 → 0 ≡ nameCode (sheet .now) i
+  pub no-name : length (part .now) ≡ 0 → 0 ≡ nameCode mostNodes (sheet .now) i
   no-name z = sym (absent-code (sheet .now) i (λ g. let l = given-name (sheet .now) i g in omega (arith, given-length g)))
 
-  pub some-name : {place : ℕ} → place ≡ variablePlace i → (length (part .now) ≡ 0 → ⊥) → (place + nameStart) * 65536 + length (part .now) ≡ nameCode (sheet .now) i
+  pub some-name : {place : ℕ} → place ≡ variablePlace i → (length (part .now) ≡ 0 → ⊥) → (place + nameStart) * 65536 + length (part .now) ≡ nameCode mostNodes (sheet .now) i
   some-name {place} e z = go (name-decided (sheet .now) i)
     where
-      go : Dec (NameGiven (sheet .now) i) → (place + nameStart) * 65536 + length (part .now) ≡ nameCode (sheet .now) i
+      go : Dec (NameGiven mostNodes (sheet .now) i) → (place + nameStart) * 65536 + length (part .now) ≡ nameCode mostNodes (sheet .now) i
       go (yes g) = let c = given-code (sheet .now) i g in omega (arith, given-length g)
       go (no f) = absurd (z (absent-length f))
 
-  pub name-tells : (length (part .now) ≡ nameCode (sheet .now) i % 65536) × (part .ptr .1 ≡ sheet .ptr .1 + nameCode (sheet .now) i / 65536)
+  pub name-tells : (length (part .now) ≡ nameCode mostNodes (sheet .now) i % 65536) × (part .ptr .1 ≡ sheet .ptr .1 + nameCode mostNodes (sheet .now) i / 65536)
   name-tells = go (name-decided (sheet .now) i)
     where
-      go : Dec (NameGiven (sheet .now) i) → (length (part .now) ≡ nameCode (sheet .now) i % 65536) × (part .ptr .1 ≡ sheet .ptr .1 + nameCode (sheet .now) i / 65536)
+      go : Dec (NameGiven mostNodes (sheet .now) i) → (length (part .now) ≡ nameCode mostNodes (sheet .now) i % 65536) × (part .ptr .1 ≡ sheet .ptr .1 + nameCode mostNodes (sheet .now) i / 65536)
       go (yes g) =
           let c = given-code (sheet .now) i g in
           let l = given-name (sheet .now) i g in

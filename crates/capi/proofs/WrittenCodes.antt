@@ -9,6 +9,7 @@ use lib.ListN.{length}
 use Rattle.refusals.specs.declared.Refusal.{Refusal}
 use Rattle.layout.specs.Parts.{ruleIn}
 use Rattle.refusals.proofs.AfterLaws.{passed}
+use Rattle.layout.specs.Limits.{mostNodes}
 use Rattle.reading.specs.Cascade.{refusalOf}
 use Rattle.cases.specs.Tallies.{unlessRefused}
 use Rattle.wording.specs.Form.{Form, sixteen}
@@ -34,26 +35,26 @@ module _ (models : Bool) (s : List ℕ) where
   form = sixteen models
 
   -- the refusal, or the bytes written
-  pub script-tells : {before after : List ℕ} {r : ℕ} → ScriptCodes form s before r after → codeSaid r ≡ (scriptRefusal form s (length before), unlessRefused (scriptRefusal form s (length before)) (length (script form (ruleIn s))))
+  pub script-tells : {before after : List ℕ} {r : ℕ} → ScriptCodes mostNodes form s before r after → codeSaid r ≡ (scriptRefusal mostNodes form s (length before), unlessRefused (scriptRefusal mostNodes form s (length before)) (length (script form (ruleIn s))))
   unfolding scriptRefusal
   script-tells {before} c = ap codeSaid (c .code) ∙ code-tells _ _ small answered
     where
-      small : (r : Refusal) → scriptRefusal form s (length before) ≡ some r → (1 ≤ r .number) × (r .place < 2 ^ 48)
+      small : (r : Refusal) → scriptRefusal mostNodes form s (length before) ≡ some r → (1 ≤ r .number) × (r .place < 2 ^ 48)
       small r e = let b = script-small models s (length before) e in (b .some-number, omega (arith, b .low-place))
 
-      answered : scriptRefusal form s (length before) ≡ none → length (script form (ruleIn s)) < 2 ^ 48
-      answered e = omega (arith, script-short models s (passed (refusalOf s) (length (script form (ruleIn s))) (length before) 9 (length (script form (ruleIn s))) e .0))
+      answered : scriptRefusal mostNodes form s (length before) ≡ none → length (script form (ruleIn s)) < 2 ^ 48
+      answered e = omega (arith, script-short models s (passed (refusalOf mostNodes s) (length (script form (ruleIn s))) (length before) 9 (length (script form (ruleIn s))) e .0))
 
-  module _ {before after : List ℕ} {a : Written} (c : Writes form s before a after) where
-    answer-is : {v : Option Refusal × ℕ} → writtenSaid a ≡ v → scriptVerdict (scriptRefusal form s (length before)) (script form (ruleIn s)) ≡ v
+  module _ {before after : List ℕ} {a : Written} (c : Writes mostNodes form s before a after) where
+    answer-is : {v : Option Refusal × ℕ} → writtenSaid a ≡ v → scriptVerdict (scriptRefusal mostNodes form s (length before)) (script form (ruleIn s)) ≡ v
     answer-is e = sym (c .answer) ∙ e
 
-    pub written-code : {n : ℕ} {v : Option Refusal × ℕ} → writtenSaid a ≡ v → n ≡ writtenCode v → ScriptCodes form s before n after
-    written-code e d = record { code = d ∙ ap writtenCode (sym (answer-is e)) ∙ written-code-by (scriptRefusal form s (length before)) (script form (ruleIn s)); room = c .room }
+    pub written-code : {n : ℕ} {v : Option Refusal × ℕ} → writtenSaid a ≡ v → n ≡ writtenCode v → ScriptCodes mostNodes form s before n after
+    written-code e d = record { code = d ∙ ap writtenCode (sym (answer-is e)) ∙ written-code-by (scriptRefusal mostNodes form s (length before)) (script form (ruleIn s)); room = c .room }
 
     pub written-place : {r : Refusal} → a ≡ Refused r → r .place ≤ enoughRoom
-    written-place {r} d = go (scriptRefusal form s (length before)) refl (answer-is (ap writtenSaid d))
+    written-place {r} d = go (scriptRefusal mostNodes form s (length before)) refl (answer-is (ap writtenSaid d))
       where
-        go : (o : Option Refusal) → scriptRefusal form s (length before) ≡ o → scriptVerdict o (script form (ruleIn s)) ≡ (some r, 0) → r .place ≤ enoughRoom
+        go : (o : Option Refusal) → scriptRefusal mostNodes form s (length before) ≡ o → scriptVerdict o (script form (ruleIn s)) ≡ (some r, 0) → r .place ≤ enoughRoom
         go none q w = absurd (let z : _≡_ {A = ℕ} 0 1 = cc (ap (λ (p : Option Refusal × ℕ). p .0) w) in omega arith)
         go (some t) q w = script-small models s (length before) (q ∙ ap (λ (p : Option Refusal × ℕ). p .0) w) .low-place

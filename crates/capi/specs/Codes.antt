@@ -1,4 +1,4 @@
--- The answers of the C interface as one number each (include/ragwashin.h).
+-- The answers of the C interface as one number each (include/ragwashin.h). `limit` is the most nodes that a sheet may have.
 use Prim.Native.Nat.{ℕ, zero, suc, _+_, _-_, _*_, _/_, _%_, _^_, _<_}
 use mathlib.Core.Path.{_≡_}
 use mathlib.Core.Bool.{Bool, cond, _&&_}
@@ -42,12 +42,12 @@ abbrev pub codeSaid : ℕ → Option Refusal × ℕ
 codeSaid c = saidBy (c / 2 ^ 48) (c % 2 ^ 48)
 
 -- 0 where the sheet is accepted
-abbrev pub readCode : List ℕ → ℕ
-readCode s = codeOf (refusalOf s) 0
+abbrev pub readCode : ℕ → List ℕ → ℕ
+readCode limit s = codeOf (refusalOf limit s) 0
 
 -- the name's offset in the sheet times 65,536 plus its length; 0 where no name is given
-abbrev pub nameCode : List ℕ → ℕ → ℕ
-nameCode s i = unlessRefused (refusalOf s) (cond (ltb i (variableCount s)) ((variablePlace i + nameStart) * 65536 + nameSize s (variablePlace i)) 0)
+abbrev pub nameCode : ℕ → List ℕ → ℕ → ℕ
+nameCode limit s i = unlessRefused (refusalOf limit s) (cond (ltb i (variableCount s)) ((variablePlace i + nameStart) * 65536 + nameSize s (variablePlace i)) 0)
 
 -- 510, and the part starts at 512 times k; 0 where block k is not wholly inside or its check is wrong
 abbrev pub blockCode : List ℕ → ℕ → ℕ
@@ -57,21 +57,21 @@ blockCode s k = cond (leb (blockBytes * k + blockBytes) (length s) && blockRight
 abbrev pub failsCode : Bool → ℕ
 failsCode fails = cond fails 1 0
 
-pub record CheckCodes (s : List ℕ) (before : List ℤ) (r : ℕ) (after : List ℤ) : Type 0 where
-  pub code : r ≡ codeOf (checkRefusal s (length before)) (failsCode (isSome (firstFailure (ruleIn s))))
-  pub room : after ≡ roomAfter (checkRefusal s (length before)) (firstFailure (ruleIn s)) before
+pub record CheckCodes (limit : ℕ) (s : List ℕ) (before : List ℤ) (r : ℕ) (after : List ℤ) : Type 0 where
+  pub code : r ≡ codeOf (checkRefusal limit s (length before)) (failsCode (isSome (firstFailure (ruleIn s))))
+  pub room : after ≡ roomAfter (checkRefusal limit s (length before)) (firstFailure (ruleIn s)) before
 
 -- the tally: held times 2^24 plus failed
 abbrev pub countsCode : ℕ → ℕ → ℕ
 countsCode h f = h * 2 ^ 24 + f
 
-abbrev pub tallyCode : List ℕ → ℕ
-tallyCode s = codeOf (tryRefusal s) (countsCode (held (ruleIn s)) (failed (ruleIn s)))
+abbrev pub tallyCode : ℕ → List ℕ → ℕ
+tallyCode limit s = codeOf (tryRefusal limit s) (countsCode (held (ruleIn s)) (failed (ruleIn s)))
 
 -- a script: the bytes written, and the room as `write_script` leaves it
-pub record ScriptCodes (f : Form) (s before : List ℕ) (r : ℕ) (after : List ℕ) : Type 0 where
-  pub code : r ≡ codeOf (scriptRefusal f s (length before)) (length (script f (ruleIn s)))
-  pub room : after ≡ scriptRoom (scriptRefusal f s (length before)) (script f (ruleIn s)) before
+pub record ScriptCodes (limit : ℕ) (f : Form) (s before : List ℕ) (r : ℕ) (after : List ℕ) : Type 0 where
+  pub code : r ≡ codeOf (scriptRefusal limit f s (length before)) (length (script f (ruleIn s)))
+  pub room : after ≡ scriptRoom (scriptRefusal limit f s (length before)) (script f (ruleIn s)) before
 
 -- a place in a reply that 48 bits don't hold is told as the greatest that they do
 abbrev pub tellable : ℕ → ℕ
@@ -83,12 +83,12 @@ replyCode Unsat = 0
 replyCode Fails = 1
 replyCode (Refused r) = refusalCode (record { number = r .number; place = tellable (r .place) })
 
-pub record ReplyCodes (s reply : List ℕ) (r : ℕ) : Type 0 where
+pub record ReplyCodes (limit : ℕ) (s reply : List ℕ) (r : ℕ) : Type 0 where
   pub answer : Replied
-  pub replies : Replies s reply answer
+  pub replies : Replies limit s reply answer
   pub code : r ≡ replyCode answer
 
 -- a variable's digits: their offset in the reply times 65,536 plus their number; 0 where none are given or 48 bits don't hold the offset
-pub record DigitsCodes (s reply : List ℕ) (i r : ℕ) : Type 0 where
-  pub given : DigitsGiven s reply i → digitsPlace i reply < 2 ^ 48 → r ≡ digitsPlace i reply * 65536 + digitsSize i reply
-  pub absent : (DigitsGiven s reply i → digitsPlace i reply < 2 ^ 48 → ⊥) → r ≡ 0
+pub record DigitsCodes (limit : ℕ) (s reply : List ℕ) (i r : ℕ) : Type 0 where
+  pub given : DigitsGiven limit s reply i → digitsPlace i reply < 2 ^ 48 → r ≡ digitsPlace i reply * 65536 + digitsSize i reply
+  pub absent : (DigitsGiven limit s reply i → digitsPlace i reply < 2 ^ 48 → ⊥) → r ≡ 0

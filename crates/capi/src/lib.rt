@@ -2,6 +2,7 @@
 ghost use mathlib.Core.Path.{_≡_};
 ghost use Prim.Native.Nat.{_<_, _^_};
 ghost use mathlib.Core.Bool.{true, false};
+ghost use Rattle.layout.specs.Limits.{mostNodes};
 ghost use Rattle.wording.specs.Form.{sixteen, formOf};
 ghost use Rattle.capi.specs.Codes.{readCode, nameCode, blockCode, refusalCode, CheckCodes, tallyCode, ScriptCodes, tellable, ReplyCodes, DigitsCodes};
 use cases::Checked;
@@ -21,7 +22,7 @@ const COUNT: u64 = 16777216;
 
 #[no_mangle]
 pub extern "C" fn ragwashin_read(sheet: &[u8]) -> u64
-    ensures { λ r. ⌜ r ≡ readCode (now (sheet .entry)) ⌝ }
+    ensures { λ r. ⌜ r ≡ readCode mostNodes (now (sheet .entry)) ⌝ }
 {
     let reading = reading::read(sheet);
     match reading {
@@ -32,7 +33,7 @@ pub extern "C" fn ragwashin_read(sheet: &[u8]) -> u64
 
 #[no_mangle]
 pub extern "C" fn ragwashin_name(sheet: &[u8], variable: u16) -> u64
-    ensures { λ r. ⌜ r ≡ nameCode (now (sheet .entry)) variable ⌝ }
+    ensures { λ r. ⌜ r ≡ nameCode mostNodes (now (sheet .entry)) variable ⌝ }
 {
     let part = reading::name(sheet, VariableNumber(variable));
     let size = part.len() as u64;
@@ -60,7 +61,7 @@ fn refusal_code(refusal: Refusal) -> u64
 
 #[no_mangle]
 pub extern "C" fn ragwashin_check(sheet: &[u8], room: &mut [i16]) -> u64
-    ensures { λ r. ⌜ CheckCodes (now (sheet .entry)) (now (room .entry)) r (now (room .exit)) ⌝ }
+    ensures { λ r. ⌜ CheckCodes mostNodes (now (sheet .entry)) (now (room .entry)) r (now (room .exit)) ⌝ }
 {
     let checked = cases::check(sheet, room);
     match checked {
@@ -72,7 +73,7 @@ pub extern "C" fn ragwashin_check(sheet: &[u8], room: &mut [i16]) -> u64
 
 #[no_mangle]
 pub extern "C" fn ragwashin_tally(sheet: &[u8]) -> u64
-    ensures { λ r. ⌜ r ≡ tallyCode (now (sheet .entry)) ⌝ }
+    ensures { λ r. ⌜ r ≡ tallyCode mostNodes (now (sheet .entry)) ⌝ }
 {
     let tally = cases::tally(sheet);
     let reading = tally.reading;
@@ -84,7 +85,7 @@ pub extern "C" fn ragwashin_tally(sheet: &[u8]) -> u64
 
 // What the writer answers, as one number.
 fn script_code(sheet: &[u8], form: ScriptForm, room: &mut [u8]) -> u64
-    ensures { λ r. ⌜ ScriptCodes (formOf form) (now (sheet .entry)) (now (room .entry)) r (now (room .exit)) ⌝ }
+    ensures { λ r. ⌜ ScriptCodes mostNodes (formOf form) (now (sheet .entry)) (now (room .entry)) r (now (room .exit)) ⌝ }
 {
     let written = writer::write_script(sheet, form, room);
     match written {
@@ -95,14 +96,14 @@ fn script_code(sheet: &[u8], form: ScriptForm, room: &mut [u8]) -> u64
 
 #[no_mangle]
 pub extern "C" fn ragwashin_script(sheet: &[u8], room: &mut [u8]) -> u64
-    ensures { λ r. ⌜ ScriptCodes (sixteen false) (now (sheet .entry)) (now (room .entry)) r (now (room .exit)) ⌝ }
+    ensures { λ r. ⌜ ScriptCodes mostNodes (sixteen false) (now (sheet .entry)) (now (room .entry)) r (now (room .exit)) ⌝ }
 {
     script_code(sheet, ScriptForm { models: false }, room)
 }
 
 #[no_mangle]
 pub extern "C" fn ragwashin_ask(sheet: &[u8], room: &mut [u8]) -> u64
-    ensures { λ r. ⌜ ScriptCodes (sixteen true) (now (sheet .entry)) (now (room .entry)) r (now (room .exit)) ⌝ }
+    ensures { λ r. ⌜ ScriptCodes mostNodes (sixteen true) (now (sheet .entry)) (now (room .entry)) r (now (room .exit)) ⌝ }
 {
     script_code(sheet, ScriptForm { models: true }, room)
 }
@@ -119,7 +120,7 @@ fn told_place(place: usize) -> usize
 
 #[no_mangle]
 pub extern "C" fn ragwashin_reply(sheet: &[u8], reply: &[u8]) -> u64
-    ensures { λ r. ⌜ ReplyCodes (now (sheet .entry)) (now (reply .entry)) r ⌝ }
+    ensures { λ r. ⌜ ReplyCodes mostNodes (now (sheet .entry)) (now (reply .entry)) r ⌝ }
 {
     let replied = trial::reply(sheet, reply);
     match replied {
@@ -134,7 +135,7 @@ pub extern "C" fn ragwashin_reply(sheet: &[u8], reply: &[u8]) -> u64
 
 #[no_mangle]
 pub extern "C" fn ragwashin_digits(sheet: &[u8], reply: &[u8], variable: u16) -> u64
-    ensures { λ r. ⌜ DigitsCodes (now (sheet .entry)) (now (reply .entry)) variable r ⌝ }
+    ensures { λ r. ⌜ DigitsCodes mostNodes (now (sheet .entry)) (now (reply .entry)) variable r ⌝ }
 {
     let span = trial::digits_span(sheet, reply, VariableNumber(variable));
     let start = span.start as u64;

@@ -20,7 +20,7 @@ use Rattle.meaning.specs.Value.{value}
 use Rattle.meaning.specs.Rule.{valueIn}
 use Rattle.meaning.specs.Cases.{holds}
 use Rattle.meaning.proofs.Row.{same-values}
-use Rattle.layout.specs.Limits.{nodeBytes, nodePlace}
+use Rattle.layout.specs.Limits.{nodeBytes, nodePlace, mostNodes}
 use Rattle.layout.specs.Goal.{ofSort, treeAt}
 use Rattle.layout.specs.Parts.{nodeCount, goalAt, variableCount, table, ruleIn}
 use Rattle.layout.proofs.GoalLaws.{operand-as, operand-from}
@@ -49,7 +49,7 @@ bit-narrow true = record { low = leZ-yes tt; high = leZ-yes tt }
 bit-narrow false = zero-narrow
 
 module _ {s : List ℕ} {numbers : List ℤ} (ok : Standing s numbers) where
-  pub counted : Counted s
+  pub counted : Counted mostNodes s
   counted = accepted-counted s (ok .accepted)
 
   pub record-inside : {n : ℕ} → n < nodeCount s → nodePlace n + nodeBytes ≤ length s

@@ -6,10 +6,11 @@ use mathlib.Core.Option.{none}
 use lib.IntN.{ℤ, pos}
 use lib.ListN.{getD, take}
 use Rattle.meaning.specs.Rule.{Case}
+use Rattle.layout.specs.Limits.{mostNodes}
 use Rattle.layout.specs.Parts.{variableCount, ruleIn}
 use Rattle.reading.specs.Cascade.{refusalOf}
 
 pub record Standing (s : List ℕ) (numbers : List ℤ) : Type 0 where
-  pub accepted : refusalOf s ≡ none
+  pub accepted : refusalOf mostNodes s ≡ none
   pub present : Case (ruleIn s) (take (variableCount s) numbers)
   pub zeros : (i : ℕ) → variableCount s ≤ i → getD numbers i (pos 0) ≡ pos 0

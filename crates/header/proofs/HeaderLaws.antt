@@ -14,7 +14,7 @@ use lib.ListN.{length}
 use Rattle.lists.specs.Places.{allBelow}
 use Rattle.lists.proofs.TestLaws.{both, and, all-true, all-of}
 use Rattle.refusals.specs.declared.Refusal.{Refusal}
-use Rattle.layout.specs.Limits.{blockBytes, contentBytes, headerGap, headerGapBytes, mostVariables, nodeBytes, mostNodes, blocksFor, variablePlace, nodePlace}
+use Rattle.layout.specs.Limits.{blockBytes, contentBytes, headerGap, headerGapBytes, mostVariables, nodeBytes, blocksFor, sheetBytes, variablePlace, nodePlace}
 use Rattle.layout.specs.Parts.{edition, nodeCount, variableCount}
 use Rattle.layout.specs.LaidOut.{Zeros, usedInNodeBlock}
 use Rattle.header.specs.Header.{zeros, countsRight, usedIn, tailClear, outsideClear, header, Counted}
@@ -22,24 +22,24 @@ use Rattle.lists.proofs.BelowLaws.{all-stop}
 use Rattle.header.proofs.ZeroLaws.{zeros-at, zeros-of}
 
 -- ---- the counts and the length
-module _ (s : List ℕ) where
-  pub counts-none : nodeCount s < 1 → countsRight s ≡ false
+module _ (limit : ℕ) (s : List ℕ) where
+  pub counts-none : nodeCount s < 1 → countsRight limit s ≡ false
   unfolding countsRight
   counts-none h = rw (lt-leb 1 (nodeCount s) h)
 
-  pub counts-many : mostNodes < nodeCount s → countsRight s ≡ false
+  pub counts-many : limit < nodeCount s → countsRight limit s ≡ false
   unfolding countsRight
-  counts-many h = rw (lt-leb (nodeCount s) mostNodes h, and-false)
+  counts-many h = rw (lt-leb (nodeCount s) limit h, and-false)
 
-  pub counts-variables : mostVariables < variableCount s → countsRight s ≡ false
+  pub counts-variables : mostVariables < variableCount s → countsRight limit s ≡ false
   unfolding countsRight
   counts-variables h = rw (lt-leb (variableCount s) mostVariables h, and-false)
 
-  pub counts-size : 1 ≤ nodeCount s → nodeCount s ≤ mostNodes → variableCount s ≤ mostVariables → countsRight s ≡ eqb (length s) (blockBytes * (blocksFor (nodeCount s) + 1))
+  pub counts-size : 1 ≤ nodeCount s → nodeCount s ≤ limit → variableCount s ≤ mostVariables → countsRight limit s ≡ eqb (length s) (sheetBytes (nodeCount s))
   unfolding countsRight
-  counts-size a b c = rw (le-leb 1 (nodeCount s) a, le-leb (nodeCount s) mostNodes b, le-leb (variableCount s) mostVariables c)
+  counts-size a b c = rw (le-leb 1 (nodeCount s) a, le-leb (nodeCount s) limit b, le-leb (variableCount s) mostVariables c)
 
-  pub counts-at : countsRight s ≡ true → Counted s
+  pub counts-at : countsRight limit s ≡ true → Counted limit s
   unfolding countsRight
   counts-at e =
       let w = both _ _ e in
@@ -47,7 +47,7 @@ module _ (s : List ℕ) where
       let u = both _ _ (v .0) in
       record { some-node = leb-true _ _ (u .0); most = leb-true _ _ (u .1); few = leb-true _ _ (v .1); size = eqb-true _ _ (w .1) }
 
-  pub counts-of : Counted s → countsRight s ≡ true
+  pub counts-of : Counted limit s → countsRight limit s ≡ true
   counts-of h = counts-size (h .some-node) (h .most) (h .few) ∙ eq-eqb _ _ (h .size)
 
 -- ---- the bytes outside the records: block 0's tail and those of the node blocks
@@ -105,59 +105,59 @@ module _ (s : List ℕ) where
 abbrev pub at-0 : ℕ → Refusal
 at-0 n = record { number = n; place = 0 }
 
-pub record HeaderRight (s : List ℕ) : Type 0 where
+pub record HeaderRight (limit : ℕ) (s : List ℕ) : Type 0 where
   pub edition : edition s ≡ 1
   pub some-node : 1 ≤ nodeCount s
-  pub most : nodeCount s ≤ mostNodes
+  pub most : nodeCount s ≤ limit
   pub few : variableCount s ≤ mostVariables
-  pub size : length s ≡ blockBytes * (blocksFor (nodeCount s) + 1)
+  pub size : length s ≡ sheetBytes (nodeCount s)
   pub gap : Zeros s headerGap headerGapBytes
   pub tail : Tail s
   pub tails : Tails s
 
-module _ (s : List ℕ) where
-  pub edition-refuses : (edition s ≡ 1 → ⊥) → header s ≡ some (at-0 3)
+module _ (limit : ℕ) (s : List ℕ) where
+  pub edition-refuses : (edition s ≡ 1 → ⊥) → header limit s ≡ some (at-0 3)
   unfolding header
   edition-refuses h = rw (ne-eqb (edition s) 1 h)
 
-  tests-refuse : edition s ≡ 1 → countsRight s && outsideClear s ≡ false → header s ≡ some (at-0 4)
+  tests-refuse : edition s ≡ 1 → countsRight limit s && outsideClear s ≡ false → header limit s ≡ some (at-0 4)
   unfolding header
   tests-refuse h e = rw (eq-eqb (edition s) 1 h, e)
 
-  pub counts-refuse : edition s ≡ 1 → countsRight s ≡ false → header s ≡ some (at-0 4)
+  pub counts-refuse : edition s ≡ 1 → countsRight limit s ≡ false → header limit s ≡ some (at-0 4)
   counts-refuse h e = tests-refuse h (rw e)
 
-  pub outside-refuses : edition s ≡ 1 → outsideClear s ≡ false → header s ≡ some (at-0 4)
+  pub outside-refuses : edition s ≡ 1 → outsideClear s ≡ false → header limit s ≡ some (at-0 4)
   outside-refuses h e = tests-refuse h (rw (e, and-false))
 
-  pub tests-pass : edition s ≡ 1 → countsRight s ≡ true → outsideClear s ≡ true → header s ≡ none
+  pub tests-pass : edition s ≡ 1 → countsRight limit s ≡ true → outsideClear s ≡ true → header limit s ≡ none
   unfolding header
   tests-pass h e d = rw (eq-eqb (edition s) 1 h, e, d)
 
-  pub right-counts : HeaderRight s → Counted s
+  pub right-counts : HeaderRight limit s → Counted limit s
   right-counts h = record { some-node = h .some-node; most = h .most; few = h .few; size = h .size }
 
   -- none exactly where the header is right
-  pub none-of-right : HeaderRight s → header s ≡ none
-  none-of-right h = tests-pass (h .edition) (counts-of s (right-counts h)) (outside-of s (h .gap) (h .tail) (h .tails))
+  pub none-of-right : HeaderRight limit s → header limit s ≡ none
+  none-of-right h = tests-pass (h .edition) (counts-of limit s (right-counts h)) (outside-of s (h .gap) (h .tail) (h .tails))
 
-  pub right-of-tests : edition s ≡ 1 → countsRight s ≡ true → outsideClear s ≡ true → HeaderRight s
+  pub right-of-tests : edition s ≡ 1 → countsRight limit s ≡ true → outsideClear s ≡ true → HeaderRight limit s
   right-of-tests h e d =
-      let c = counts-at s e in
+      let c = counts-at limit s e in
       let o = outside-at s d in
       record { edition = h; some-node = c .some-node; most = c .most; few = c .few; size = c .size; gap = o .0; tail = o .1; tails = o .2 }
 
-  pub right-of-none : header s ≡ none → HeaderRight s
-  right-of-none e = go (ℕ-discrete (edition s) 1) (countsRight s) (outsideClear s) refl refl
+  pub right-of-none : header limit s ≡ none → HeaderRight limit s
+  right-of-none e = go (ℕ-discrete (edition s) 1) (countsRight limit s) (outsideClear s) refl refl
     where
-      go : Dec (edition s ≡ 1) → (p q : Bool) → countsRight s ≡ p → outsideClear s ≡ q → HeaderRight s
+      go : Dec (edition s ≡ 1) → (p q : Bool) → countsRight limit s ≡ p → outsideClear s ≡ q → HeaderRight limit s
       go (no n) p q c o = absurd (Option·none-ne-some _ (sym e ∙ edition-refuses n))
       go (yes h) true true c o = right-of-tests h c o
       go (yes h) true false c o = absurd (Option·none-ne-some _ (sym e ∙ outside-refuses h o))
       go (yes h) false q c o = absurd (Option·none-ne-some _ (sym e ∙ counts-refuse h c))
 
 -- ---- what lies inside, where the counts and the length are right
-module _ {s : List ℕ} (c : Counted s) where
+module _ {limit : ℕ} {s : List ℕ} (c : Counted limit s) where
   pub block-inside : blockBytes ≤ length s
   block-inside = omega (arith, c .size)
 

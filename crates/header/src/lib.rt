@@ -56,7 +56,7 @@ pub fn clear(sheet: &[u8], at: usize, n: usize) -> bool
 // Whether the counts and the length keep their rules.
 fn counts_right(sheet: &[u8]) -> bool
     requires { ⌜ blockBytes ≤ length (now sheet) ⌝ }
-    ensures { λ r. ⌜ r ≡ countsRight (now (sheet .entry)) ⌝ }
+    ensures { λ r. ⌜ r ≡ countsRight mostNodes (now (sheet .entry)) ⌝ }
 {
     let n = node_count(sheet);
     let v = variable_count(sheet);
@@ -122,7 +122,7 @@ fn outside_clear(sheet: &[u8]) -> bool
 // Refusals 3 and 4.
 pub fn read_header(sheet: &[u8]) -> Reading
     requires { ⌜ blockBytes ≤ length (now sheet) ⌝ }
-    ensures { λ r. ⌜ saidOf r ≡ header (now (sheet .entry)) ⌝ }
+    ensures { λ r. ⌜ saidOf r ≡ header mostNodes (now (sheet .entry)) ⌝ }
 {
     if numbers::u16_at(sheet, EDITION_OFFSET) != 1 {
         return Reading::Refused(Refusal {

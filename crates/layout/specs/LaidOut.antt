@@ -9,7 +9,7 @@ use Rattle.meaning.specs.declared.Sort.the-variants.{Truth}
 use Rattle.kinds.specs.declared.Record.{Record}
 use Rattle.kinds.specs.declared.Shape.{Shape}
 use Rattle.kinds.specs.Rows.{Known}
-use Rattle.layout.specs.Limits.{blockBytes, contentBytes, headerGap, headerGapBytes, mostVariables, nameStart, mostNameBytes, nameField, nodeBytes, nodesInBlock, mostNodes, blocksFor, variablePlace}
+use Rattle.layout.specs.Limits.{blockBytes, contentBytes, headerGap, headerGapBytes, mostVariables, nameStart, mostNameBytes, nameField, nodeBytes, nodesInBlock, mostNodes, blocksFor, sheetBytes, variablePlace}
 use Rattle.layout.specs.Checks.{blockRight}
 use Rattle.layout.specs.Starts.{shapeAt, sortAt, fieldsOf, operandsOf, startAt, VariableBelow, Ordered, Typed}
 use Rattle.layout.specs.Parts.{edition, nodeCount, variableCount, nameSize, zeroByte, table}
@@ -53,7 +53,7 @@ pub record VariableLaidOut (s : List ℕ) (i : ℕ) : Type 0 where
 
 pub record LaidOut (s : List ℕ) : Type 0 where
   pub bytes : Bytes s
-  pub size : length s ≡ blockBytes * (blocksFor (nodeCount s) + 1)
+  pub size : length s ≡ sheetBytes (nodeCount s)
   pub checks : (k : ℕ) → k < blocksFor (nodeCount s) + 1 → blockRight s k ≡ true
   pub first-edition : edition s ≡ 1
   pub few : variableCount s ≤ mostVariables

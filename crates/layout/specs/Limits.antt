@@ -93,12 +93,16 @@ mostNodes = 1984
 abbrev pub blocksFor : ℕ → ℕ
 blocksFor n = (n + (nodesInBlock - 1)) / nodesInBlock
 
--- block 0 and the most node blocks, and the bytes of the longest sheet
+-- the bytes of a sheet of n nodes: block 0 and the node blocks
+abbrev pub sheetBytes : ℕ → ℕ
+sheetBytes n = blockBytes * (blocksFor n + 1)
+
+-- the blocks and the bytes of the longest sheet
 abbrev pub mostBlocks : ℕ
 mostBlocks = blocksFor mostNodes + 1
 
 abbrev pub mostSheetBytes : ℕ
-mostSheetBytes = blockBytes * mostBlocks
+mostSheetBytes = sheetBytes mostNodes
 
 -- where the record of variable i and that of node n stand
 abbrev pub variablePlace : ℕ → ℕ

@@ -51,7 +51,7 @@ step s = nodeStep (findingOf (domainAt s)) (table s)
 
 -- what is known before the turn at i of n nodes over v variables: the arrays have what is found before i, and no node before i is refused
 pub record Going (s : List ℕ) (n v : ℕ) (starts findings : List ℕ) (i : ℕ) : Type 0 where
-  pub counted : Counted s
+  pub counted : Counted mostNodes s
   pub nodes-are : n ≡ nodeCount s
   pub variables-are : v ≡ variableCount s
   pub le : i ≤ n
@@ -65,7 +65,7 @@ pub record Going (s : List ℕ) (n v : ℕ) (starts findings : List ℕ) (i : �
 abbrev each : (ℕ → ℕ) → ℕ → Finding
 each g j = unpackedOf (g j)
 
-pub begin : {s : List ℕ} {n v : ℕ} → Counted s → n ≡ nodeCount s → v ≡ variableCount s → Going s n v (replicate mostNodes 0) (replicate mostNodes 0) 0
+pub begin : {s : List ℕ} {n v : ℕ} → Counted mostNodes s → n ≡ nodeCount s → v ≡ variableCount s → Going s n v (replicate mostNodes 0) (replicate mostNodes 0) 0
 unfolding below
 begin {s} c en ev = record {
   counted = c;

@@ -1,6 +1,7 @@
 // The nodes of a sheet, from 0 up, and the goal: refusals 6 to 8.
 ghost use mathlib.Core.Path.{_≡_};
 ghost use Rattle.refusals.specs.Said.{saidOf};
+ghost use Rattle.layout.specs.Limits.{mostNodes};
 ghost use Rattle.header.specs.Header.{Counted};
 ghost use Rattle.findings.specs.Findings.{sortOf};
 ghost use Rattle.nodes.specs.Nodes.{nodes, goalRefusal};
@@ -27,7 +28,7 @@ fn read_goal(goal: NodeNumber, start: NodeNumber, f: Finding) -> Reading
 
 // Refusals 6 to 8.
 pub fn read_nodes(sheet: &[u8]) -> Reading
-    requires { ⌜ Counted (now sheet) ⌝ }
+    requires { ⌜ Counted mostNodes (now sheet) ⌝ }
     ensures { λ r. ⌜ saidOf r ≡ nodes (now (sheet .entry)) ⌝ }
 {
     let n = header::node_count(sheet);

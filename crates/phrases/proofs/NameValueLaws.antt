@@ -15,7 +15,7 @@ use Rattle.lists.proofs.RunLaws.{stands-from, run-part}
 use Rattle.lists.proofs.JoinedLaws.{joined-more}
 use Rattle.numbers.specs.Ranges.{Narrow}
 use Rattle.numbers.proofs.Fit.{i16-of-narrow}
-use Rattle.layout.specs.Limits.{mostVariables, variablePlace, nameStart}
+use Rattle.layout.specs.Limits.{mostVariables, variablePlace, nameStart, mostNodes}
 use Rattle.layout.specs.Parts.{variableCount, variableAt, nameSize, nameIn, ruleIn}
 use Rattle.reading.specs.Cascade.{refusalOf}
 use Rattle.reading.proofs.RuleLaws.{accepted-counted, accepted-kept}
@@ -27,7 +27,7 @@ use Rattle.phrases.specs.Pieces.{Named, nameValueAt, nameValuesAt, fails
 use Rattle.phrases.proofs.SignedLaws.{kept-is}
 
 -- ---- a variable's name in an accepted sheet
-module _ (s : List ℕ) (e : refusalOf s ≡ none) where
+module _ (s : List ℕ) (e : refusalOf mostNodes s ≡ none) where
   pub few-variables : variableCount s ≤ mostVariables
   few-variables = accepted-counted s e .few
 

@@ -8,7 +8,7 @@ use lib.ListN.{length, getD}
 use Rattle.lists.specs.Ascii.{ascii}
 use Rattle.lists.specs.Joined.{joinedBelow}
 use Rattle.numbers.specs.Ranges.{Narrow}
-use Rattle.layout.specs.Limits.{mostNameBytes}
+use Rattle.layout.specs.Limits.{mostNameBytes, mostNodes}
 use Rattle.layout.specs.Parts.{variableCount, variableAt}
 use Rattle.reading.specs.Cascade.{refusalOf}
 use Rattle.phrases.specs.Phrases.{nameValue}
@@ -20,7 +20,7 @@ pub record Named (s : List ℕ) (i : ℕ) (t : List ℕ) : Type 0 where
 
 -- the sheet is accepted, and the row's values of its variables have 16 bits
 pub record Settled (s : List ℕ) (row : List ℤ) : Type 0 where
-  pub accepted : refusalOf s ≡ none
+  pub accepted : refusalOf mostNodes s ≡ none
   pub narrow : (i : ℕ) → i < variableCount s → Narrow (getD row i (pos 0))
 
 -- variable i's name and the row's value for it

@@ -4,7 +4,7 @@ ghost use mathlib.Core.Option.{none};
 ghost use Prim.Native.Nat.{_+_, _*_, _≤_, _<_};
 ghost use lib.IntN.{natAbs};
 ghost use lib.ListN.{length};
-ghost use Rattle.layout.specs.Limits.{mostVariables};
+ghost use Rattle.layout.specs.Limits.{mostVariables, mostNodes};
 ghost use Rattle.layout.specs.Parts.{variableCount, variableAt};
 ghost use Rattle.reading.specs.Cascade.{refusalOf};
 ghost use Rattle.room.specs.Room.{Wrote};
@@ -79,7 +79,7 @@ pub fn refused_line(room: &mut [u8], refusal: Refusal) -> usize
 
 // A variable's name in an accepted sheet.
 fn name_of(sheet: &[u8], n: VariableNumber) -> &[u8]
-    requires { ⌜ (refusalOf (now sheet) ≡ none) × (n .0 < variableCount (now sheet)) ⌝ }
+    requires { ⌜ (refusalOf mostNodes (now sheet) ≡ none) × (n .0 < variableCount (now sheet)) ⌝ }
     ensures { λ r. ⌜ Named (now (sheet .entry)) (n .0) (now r) ⌝ }
 {
     records::name_in(sheet, records::variable_place(n))
@@ -87,7 +87,7 @@ fn name_of(sheet: &[u8], n: VariableNumber) -> &[u8]
 
 // A variable's name and its value.
 fn put_name_value(sheet: &[u8], n: VariableNumber, z: i16, room: &mut [u8], at: usize) -> usize
-    requires { ⌜ (refusalOf (now sheet) ≡ none) × (n .0 < variableCount (now sheet)) × (at + longestNameValue ≤ length (now room)) ⌝ }
+    requires { ⌜ (refusalOf mostNodes (now sheet) ≡ none) × (n .0 < variableCount (now sheet)) × (at + longestNameValue ≤ length (now room)) ⌝ }
     ensures { λ r. ⌜ Wrote (nameValue (variableAt (now (sheet .entry)) (n .0) .name) z) (now (room .entry)) (now (room .exit)) at r × (r ≤ at + longestNameValue) ⌝ }
 {
     let name = name_of(sheet, n);

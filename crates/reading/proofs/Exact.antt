@@ -8,6 +8,6 @@ use Rattle.reading.specs.Cascade.{refusalOf}
 use Rattle.reading.proofs.SheetRows.{early-rows, header-rows, variables-rows}
 use Rattle.reading.proofs.NodeRows.{nodes-rows}
 
-pub sheet-exactly : (s : List ℕ) → Exactly (sheetRows s) (refusalOf s)
+pub sheet-exactly : (limit : ℕ) (s : List ℕ) → Exactly (sheetRows limit s) (refusalOf limit s)
 unfolding sheetRows refusalOf
-sheet-exactly s = exactly-then (early-rows s) (λ a. exactly-then (header-rows s) (λ b. exactly-then (variables-rows s) (λ c. nodes-rows s)))
+sheet-exactly limit s = exactly-then (early-rows limit s) (λ a. exactly-then (header-rows limit s) (λ b. exactly-then (variables-rows s) (λ c. nodes-rows s)))

@@ -13,6 +13,7 @@ use Rattle.meaning.specs.Tree.{Tree}
 use Rattle.meaning.specs.Value.{value}
 use Rattle.meaning.specs.Rule.{domainOf, Case, valueIn}
 use Rattle.meaning.proofs.Listed.{in-every}
+use Rattle.layout.specs.Limits.{mostNodes}
 use Rattle.layout.specs.Starts.{sortAt}
 use Rattle.layout.specs.Goal.{ofSort, treeAt}
 use Rattle.layout.specs.Parts.{nodeCount, table, ruleIn}
@@ -26,7 +27,7 @@ use Rattle.nodes.proofs.LoopLaws.{finding-sort}
 use Rattle.reading.specs.Cascade.{refusalOf}
 use Rattle.reading.proofs.RuleLaws.{accepted-sound, accepted-fits, finding-is}
 
-module _ (s : List ℕ) (e : refusalOf s ≡ none) {c : List ℤ} (h : Case (ruleIn s) c) {n : ℕ} (l : n < nodeCount s) {r : Range} (f : findingAt s n ≡ Integer r) where
+module _ (s : List ℕ) (e : refusalOf mostNodes s ≡ none) {c : List ℤ} (h : Case (ruleIn s) c) {n : ℕ} (l : n < nodeCount s) {r : Range} (f : findingAt s n ≡ Integer r) where
   -- the value of node n, an integer, in the case
   abbrev pub nodeValue : ℤ
   nodeValue = value (valueIn c) (ofSort integer (treeAt (table s) n))

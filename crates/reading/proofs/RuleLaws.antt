@@ -16,7 +16,7 @@ use Rattle.numbers.specs.Bytes.{Bytes}
 use Rattle.meaning.specs.declared.Sort.the-variants.{Truth}
 use Rattle.meaning.specs.Rule.{Rule, domainOf}
 use Rattle.kinds.proofs.ClaimLaws.{throughout-parts}
-use Rattle.layout.specs.Limits.{blockBytes, nameStart, mostVariables, blocksFor, variablePlace}
+use Rattle.layout.specs.Limits.{blockBytes, nameStart, mostVariables, blocksFor, variablePlace, mostNodes}
 use Rattle.layout.specs.Checks.{blockRight}
 use Rattle.layout.specs.Starts.{sortAt, startAt, Typed}
 use Rattle.layout.specs.Goal.{treeAt}
@@ -61,20 +61,20 @@ name-long s i = go (nameSize s i)
 module _ (s : List ℕ) where
   -- what each part of the cascade leaves
   record Passed : Type 0 where
-    early-passed : early s ≡ none
-    header-passed : header s ≡ none
+    early-passed : early mostNodes s ≡ none
+    header-passed : header mostNodes s ≡ none
     variables-passed : variables s ≡ none
     nodes-passed : nodes s ≡ none
 
-  passed : refusalOf s ≡ none → Passed
+  passed : refusalOf mostNodes s ≡ none → Passed
   unfolding refusalOf
   passed e =
-      let a = neither (early s) _ e in
-      let b = neither (header s) _ (a .1) in
+      let a = neither (early mostNodes s) _ e in
+      let b = neither (header mostNodes s) _ (a .1) in
       let c = neither (variables s) _ (b .1) in
       record { early-passed = a .0; header-passed = b .0; variables-passed = c .0; nodes-passed = c .1 }
 
-  all-passed : Passed → refusalOf s ≡ none
+  all-passed : Passed → refusalOf mostNodes s ≡ none
   unfolding refusalOf
   all-passed p = otherwise-none _ (p .early-passed) ∙ (otherwise-none _ (p .header-passed) ∙ (otherwise-none _ (p .variables-passed) ∙ p .nodes-passed))
 
@@ -132,31 +132,31 @@ module _ (s : List ℕ) where
   listed l = rw (variable-total s) l
 
   -- ---- an accepted sheet
-  module _ (e : refusalOf s ≡ none) where
+  module _ (e : refusalOf mostNodes s ≡ none) where
     pub accepted-kept : (n : ℕ) → n < variableCount s → VariableKept s n
     accepted-kept = variables-none s .0 (passed e .variables-passed)
 
     blocks-right : (k : ℕ) → k < blocksFor (nodeCount s) + 1 → blockRight s k ≡ true
     blocks-right k h =
-        let z = right-of-none s (passed e .header-passed) .size in
-        early-none s (passed e .early-passed) .1 k (omega arith)
+        let z = right-of-none mostNodes s (passed e .header-passed) .size in
+        early-none mostNodes s (passed e .early-passed) .1 k (omega arith)
 
-    pub accepted-counted : Counted s
-    accepted-counted = right-counts s (right-of-none s (passed e .header-passed))
+    pub accepted-counted : Counted mostNodes s
+    accepted-counted = right-counts mostNodes s (right-of-none mostNodes s (passed e .header-passed))
 
     -- the header lies inside
     pub accepted-inside : (blockBytes ≤ length s) × (variableCount s ≤ mostVariables)
     accepted-inside = (block-inside accepted-counted, accepted-counted .few)
 
     pub accepted-sound : Sound (table s) (variableCount s) (nodeCount s)
-    accepted-sound = sound (right-of-none s (passed e .header-passed) .some-node) (nodes-right (passed e .nodes-passed))
+    accepted-sound = sound (right-of-none mostNodes s (passed e .header-passed) .some-node) (nodes-right (passed e .nodes-passed))
 
     pub accepted-fits : (n : ℕ) → n < nodeCount s → FindingFits (findingAt s n)
     accepted-fits n l = nodes-right (passed e .nodes-passed) .each n l .fits
 
     pub accepted-laid-out : Bytes s → LaidOut s
     accepted-laid-out bytes =
-        let h = right-of-none s (passed e .header-passed) in
+        let h = right-of-none mostNodes s (passed e .header-passed) in
         record {
           bytes = bytes;
           size = h .size;
@@ -188,13 +188,13 @@ module _ (s : List ℕ) where
         let b = rw (variable-is s n l) at (w .domains n (listed l)) in
         (rule-of s (variablePlace n) b (name-long s (variablePlace n) a) a (o .variables n l), λ m k d. w .distinct m n k (listed l) (rw (variable-is s m (omega arith), variable-is s n l) d))
 
-    accepted-back : refusalOf s ≡ none
+    accepted-back : refusalOf mostNodes s ≡ none
     accepted-back =
         let z = o .size in
         all-passed
         (record {
-          early-passed = none-early s (length-right (length s) (λ d. omega arith) (omega arith) (omega (arith, o .most))) (λ k h. o .checks k (omega arith));
-          header-passed = none-of-right s (record { edition = o .first-edition; some-node = o .nodes .some-node; most = o .most; few = o .few; size = o .size; gap = o .gap; tail = o .tail; tails = o .tails });
+          early-passed = none-early mostNodes s (length-right mostNodes (length s) (λ d. omega arith) (omega arith) (omega (arith, o .most))) (λ k h. o .checks k (omega arith));
+          header-passed = none-of-right mostNodes s (record { edition = o .first-edition; some-node = o .nodes .some-node; most = o .most; few = o .few; size = o .size; gap = o .gap; tail = o .tail; tails = o .tails });
           variables-passed = variables-none s .1 kept-back;
           nodes-passed =
               right-nodes
@@ -206,43 +206,43 @@ module _ (s : List ℕ) where
         })
 
   -- accepted means laid out right, with a lawful rule
-  pub accepted-means : Bytes s → (refusalOf s ≡ none) ↔ (LaidOut s × Lawful (ruleIn s))
+  pub accepted-means : Bytes s → (refusalOf mostNodes s ≡ none) ↔ (LaidOut s × Lawful (ruleIn s))
   accepted-means b = (λ e. (accepted-laid-out e b, accepted-lawful e), λ h. accepted-back (h .0) (h .1))
 
   -- ---- rules and sheets
-  pub rule-none : {t : Refusal} → refusalOf s ≡ some t → ruleOf s ≡ none
+  pub rule-none : {t : Refusal} → refusalOf mostNodes s ≡ some t → ruleOf mostNodes s ≡ none
   unfolding ruleOf
   rule-none e = rw (e, ruleOf)
 
-  pub rule-some : refusalOf s ≡ none → ruleOf s ≡ some (ruleIn s)
+  pub rule-some : refusalOf mostNodes s ≡ none → ruleOf mostNodes s ≡ some (ruleIn s)
   unfolding ruleOf
   rule-some e = rw (e, ruleOf)
 
-  pub rule-exactly : (r : Rule) → (ruleOf s ≡ some r) ↔ ((refusalOf s ≡ none) × (ruleIn s ≡ r))
-  rule-exactly r = (λ e. go (refusalOf s) refl e, λ h. rule-some (h .0) ∙ ap some (h .1))
+  pub rule-exactly : (r : Rule) → (ruleOf mostNodes s ≡ some r) ↔ ((refusalOf mostNodes s ≡ none) × (ruleIn s ≡ r))
+  rule-exactly r = (λ e. go (refusalOf mostNodes s) refl e, λ h. rule-some (h .0) ∙ ap some (h .1))
     where
-      go : (o : Option Refusal) → refusalOf s ≡ o → ruleOf s ≡ some r → (refusalOf s ≡ none) × (ruleIn s ≡ r)
+      go : (o : Option Refusal) → refusalOf mostNodes s ≡ o → ruleOf mostNodes s ≡ some r → (refusalOf mostNodes s ≡ none) × (ruleIn s ≡ r)
       go none q e = (q, cc (rule-some q, e))
       go (some t) q e = absurd (let z : _≡_ {A = ℕ} 0 1 = cc (rule-none q, e) in omega arith)
 
 -- the sheet of an accepted sheet's rule is that sheet
-pub rule-to-sheet : (s : List ℕ) → Bytes s → (r : Rule) → ruleOf s ≡ some r → sheetOf r ≡ s
+pub rule-to-sheet : (s : List ℕ) → Bytes s → (r : Rule) → ruleOf mostNodes s ≡ some r → sheetOf r ≡ s
 rule-to-sheet s b r e =
     let w = rule-exactly s r .0 e in
     ap sheetOf (sym (w .1)) ∙ sheet-is s (accepted-laid-out s (w .0) b)
 
-pub rule-allowed : (s : List ℕ) → Bytes s → (r : Rule) → ruleOf s ≡ some r → Allowed r
+pub rule-allowed : (s : List ℕ) → Bytes s → (r : Rule) → ruleOf mostNodes s ≡ some r → Allowed r
 rule-allowed s b r e =
     let w = rule-exactly s r .0 e in
     subst Allowed (w .1) (record { well-formed = rule-well s (accepted-laid-out s (w .0) b); lawful = accepted-lawful s (w .0) })
 
 -- the rule of an allowed rule's sheet is that rule
-pub sheet-to-rule : (r : Rule) → Allowed r → ruleOf (sheetOf r) ≡ some r
+pub sheet-to-rule : (r : Rule) → Allowed r → ruleOf mostNodes (sheetOf r) ≡ some r
 sheet-to-rule r a =
     let o = sheet-laid-out r (a .well-formed) in
     let e = sheet-shows r (a .well-formed) in
     rule-exactly (sheetOf r) r .1 (accepted-means (sheetOf r) (o .bytes) .1 (o, subst Lawful (sym e) (a .lawful)), e)
 
 -- the goal's tree uses all nodes
-pub goal-uses-all : (s : List ℕ) → Bytes s → refusalOf s ≡ none → from (table s) 0 (nodeCount s) ≡ nodesOf 0 (ruleIn s .goal)
+pub goal-uses-all : (s : List ℕ) → Bytes s → refusalOf mostNodes s ≡ none → from (table s) 0 (nodeCount s) ≡ nodesOf 0 (ruleIn s .goal)
 goal-uses-all s b e = records-are (words s b) (accepted-sound s e)

@@ -1,4 +1,4 @@
--- The refusal of a sheet, worked out in document 01's order; and the rule that an accepted sheet holds.
+-- The refusal of a sheet, worked out in document 01's order; and the rule that an accepted sheet holds. `limit` is the most nodes that a sheet may have.
 use Prim.Native.Nat.{ℕ}
 use mathlib.Core.List.{List}
 use mathlib.Core.Option.{Option, none, some}
@@ -11,9 +11,9 @@ use Rattle.header.specs.Header.{header}
 use Rattle.records.specs.Variables.{variables}
 use Rattle.nodes.specs.Nodes.{nodes}
 
-unfoldable pub refusalOf : List ℕ → Option Refusal
-refusalOf s = early s otherwise header s otherwise variables s otherwise nodes s
+unfoldable pub refusalOf : ℕ → List ℕ → Option Refusal
+refusalOf limit s = early limit s otherwise header limit s otherwise variables s otherwise nodes s
 
 -- the rule of a sheet that is not refused
-unfoldable pub ruleOf : List ℕ → Option Rule
-ruleOf s = elim (refusalOf s) [ none ↦ some (ruleIn s) | some r ↦ none ]
+unfoldable pub ruleOf : ℕ → List ℕ → Option Rule
+ruleOf limit s = elim (refusalOf limit s) [ none ↦ some (ruleIn s) | some r ↦ none ]

@@ -10,9 +10,9 @@ use Rattle.layout.specs.Parts.{variableCount, nameSize}
 use Rattle.reading.specs.Cascade.{refusalOf}
 
 -- the sheet is accepted, and variable i is below V
-abbrev pub NameGiven : List ℕ → ℕ → Type 0
-NameGiven s i = (refusalOf s ≡ none) × (i < variableCount s)
+abbrev pub NameGiven : ℕ → List ℕ → ℕ → Type 0
+NameGiven limit s i = (refusalOf limit s ≡ none) × (i < variableCount s)
 
 -- the name of variable i where it is given, else the empty part at the sheet's start
-abbrev pub NamePart : RefT (List ℕ) → ℕ → RefT (List ℕ) → Type 0
-NamePart sheet i part = PartWhere (NameGiven (sheet .now) i) sheet part (variablePlace i + nameStart) (nameSize (sheet .now) (variablePlace i))
+abbrev pub NamePart : ℕ → RefT (List ℕ) → ℕ → RefT (List ℕ) → Type 0
+NamePart limit sheet i part = PartWhere (NameGiven limit (sheet .now) i) sheet part (variablePlace i + nameStart) (nameSize (sheet .now) (variablePlace i))

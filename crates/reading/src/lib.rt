@@ -1,6 +1,7 @@
 // A sheet, read: accepted or refused, and a variable's name.
 ghost use mathlib.Core.Path.{_≡_};
 ghost use Rattle.refusals.specs.Said.{saidOf};
+ghost use Rattle.layout.specs.Limits.{mostNodes};
 ghost use Rattle.reading.specs.Cascade.{refusalOf};
 ghost use Rattle.reading.specs.Name.{NamePart};
 use numbers::VariableNumber;
@@ -8,7 +9,7 @@ use refusals::Reading;
 
 // Accepted, or refusal 1 to 8 with its place.
 pub fn read(sheet: &[u8]) -> Reading
-    ensures { λ r. ⌜ saidOf r ≡ refusalOf (now (sheet .entry)) ⌝ }
+    ensures { λ r. ⌜ saidOf r ≡ refusalOf mostNodes (now (sheet .entry)) ⌝ }
 {
     let blocks = blocks::read_blocks(sheet);
     let Reading::Accepted = blocks else {
@@ -27,7 +28,7 @@ pub fn read(sheet: &[u8]) -> Reading
 
 // A variable's name as the very part of the sheet; an empty part where the sheet is refused or there is no such variable.
 pub fn name(sheet: &[u8], variable: VariableNumber) -> &[u8]
-    ensures { λ r. ⌜ NamePart (sheet .entry) (variable .0) r ⌝ }
+    ensures { λ r. ⌜ NamePart mostNodes (sheet .entry) (variable .0) r ⌝ }
 {
     let reading = read(sheet);
     let Reading::Accepted = reading else {

@@ -140,6 +140,21 @@ exactly-then {xs} {ys} {o} {q} f g = go o f g
         exactly-by q (λ r e. answered-right xs ys silent (h .refused r .0 e)) (λ e i t b. ⊎-elim (silent i t) (λ w. h .passed .0 e (w .rank) t (w .applies)) (applies-split xs ys i b))
     go (some x) f g = exactly-by (some x) (λ r e. answered-left xs ys (f .refused r .0 e)) (λ e. none-some e)
 
+-- a table can stand for another with its answer, whatever rows stand behind
+pub exactly-instead : {xs ys : List Row} {o : Option Refusal} → Exactly xs o → Exactly ys o → (zs : List Row) {q : Option Refusal} → Exactly (xs then zs) q → Exactly (ys then zs) q
+exactly-instead {xs} {ys} {o} f g zs {q} h = exactly-by q refused passed
+  where
+    silent : NoneApplies xs → NoneApplies ys
+    silent n = g .passed .0 (f .passed .1 n)
+
+    refused : (r : Refusal) → q ≡ some r → Answered (ys then zs) r
+    refused r e = ⊎-elim (λ a. answered-left ys zs (g .refused r .0 (f .refused r .1 a))) (λ w. answered-right ys zs (silent (w .0)) (w .1)) (answered-split xs zs (h .refused r .0 e))
+
+    passed : q ≡ none → NoneApplies (ys then zs)
+    passed e i r b =
+        let none-there = h .passed .0 e in
+        ⊎-elim (silent (λ j t c. none-there j t (applies-left xs zs j t c)) i r) (λ w. none-there (length xs + w .rank) r (applies-right xs zs (w .rank) r (w .applies))) (applies-split ys zs i b)
+
 -- ---- a table for each number
 no-row : Exactly [] none
 no-row = exactly-by none (λ r e. some-none e) (λ e i r a. a)

@@ -17,7 +17,7 @@ use Rattle.pieces.specs.Sizes.{constantBytes}
 
 -- the sheet is accepted, and n is one of its nodes
 pub record AcceptedNode (s : List ℕ) (n : ℕ) : Type 0 where
-  pub accepted : refusalOf s ≡ none
+  pub accepted : refusalOf mostNodes s ≡ none
   pub below : n < nodeCount s
 
 -- node n's text

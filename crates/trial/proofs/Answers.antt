@@ -18,6 +18,7 @@ use Rattle.meaning.proofs.Listed.{in-every}
 use Rattle.layout.specs.Parts.{variableCount, ruleIn}
 use Rattle.layout.proofs.PartLaws.{variable-total}
 use Rattle.refusals.proofs.RowLaws.{exactly-once}
+use Rattle.layout.specs.Limits.{mostNodes}
 use Rattle.reading.specs.Cascade.{refusalOf}
 use Rattle.grammar.specs.Begins.{Leaves}
 use Rattle.grammar.specs.Stops.{derive, mayEnd, stops}
@@ -56,24 +57,24 @@ module _ (s : List ℕ) (c : List ℤ) where
 
 -- ---- the answer
 module _ (s reply : List ℕ) where
-  pub replies-sheet : {r : Refusal} → refusalOf s ≡ some r → Replies s reply (Refused r)
+  pub replies-sheet : {r : Refusal} → refusalOf mostNodes s ≡ some r → Replies mostNodes s reply (Refused r)
   replies-sheet e = record { refusals = refused-sheet s reply e; told = tt }
 
-  module _ (e : refusalOf s ≡ none) where
-    pub replies-11 : {p : ℕ} → Leaves (Reply (variableCount s)) reply p → Replies s reply (Refused (record { number = 11; place = p }))
+  module _ (e : refusalOf mostNodes s ≡ none) where
+    pub replies-11 : {p : ℕ} → Leaves (Reply (variableCount s)) reply p → Replies mostNodes s reply (Refused (record { number = 11; place = p }))
     replies-11 h = record { refusals = refused-11 s reply e h; told = tt }
 
-    pub replies-unsat : Claims reply → Replies s reply Unsat
+    pub replies-unsat : Claims reply → Replies mostNodes s reply Unsat
     replies-unsat f = record { refusals = claimed s reply e f; told = f }
 
     module _ {c : List ℤ} (x : SpellsCase (variableCount s) reply c) where
-      pub replies-case : {r : Refusal} → caseRefusal s c ≡ some r → Replies s reply (Refused r)
+      pub replies-case : {r : Refusal} → caseRefusal s c ≡ some r → Replies mostNodes s reply (Refused r)
       replies-case d = record { refusals = rw d at (spelled-case s reply e x); told = tt }
 
-      pub replies-fails : caseRefusal s c ≡ none → Replies s reply Fails
+      pub replies-fails : caseRefusal s c ≡ none → Replies mostNodes s reply Fails
       replies-fails d = record { refusals = rw d at (spelled-case s reply e x); told = (c, x, silent-failing s c (case-long x) d) }
 
-      pub replies-failing : Failing (ruleIn s) c → Replies s reply Fails
+      pub replies-failing : Failing (ruleIn s) c → Replies mostNodes s reply Fails
       replies-failing f = replies-fails (failing-silent s c f)
 
 -- ---- and there is one
@@ -86,43 +87,43 @@ fits-or-leaves v s = go (stops (replyFor v) 0 s) refl
 
 module _ (s reply : List ℕ) where
   Answer : Type 0
-  Answer = (r : Replied) × Replies s reply r
+  Answer = (r : Replied) × Replies mostNodes s reply r
 
-  of-case : refusalOf s ≡ none → {c : List ℤ} → SpellsCase (variableCount s) reply c → Answer
+  of-case : refusalOf mostNodes s ≡ none → {c : List ℤ} → SpellsCase (variableCount s) reply c → Answer
   unfolding Answer
   of-case e {c} x = go (caseRefusal s c) refl
     where
-      go : (o : Option Refusal) → caseRefusal s c ≡ o → (r : Replied) × Replies s reply r
+      go : (o : Option Refusal) → caseRefusal s c ≡ o → (r : Replied) × Replies mostNodes s reply r
       go none d = (Fails, replies-fails s reply e x d)
       go (some r) d = (Refused r, replies-case s reply e x d)
 
-  of-says : refusalOf s ≡ none → Says (variableCount s) reply → Answer
+  of-says : refusalOf mostNodes s ≡ none → Says (variableCount s) reply → Answer
   unfolding Answer
   of-says e (unsat f) = (Unsat, replies-unsat s reply e f)
   of-says e (sat t x) = of-case e (record { setting = t; spelled = x; case = refl })
 
   answered : Answer
   unfolding Answer
-  answered = go (refusalOf s) refl
+  answered = go (refusalOf mostNodes s) refl
     where
-      go : (o : Option Refusal) → refusalOf s ≡ o → (r : Replied) × Replies s reply r
+      go : (o : Option Refusal) → refusalOf mostNodes s ≡ o → (r : Replied) × Replies mostNodes s reply r
       go none e = ⊎-elim (λ h. of-says e (reply-says (variableCount s) reply h)) (λ w. (Refused (record { number = 11; place = w .0 }), replies-11 s reply e (w .1))) (fits-or-leaves (variableCount s) reply)
       go (some r) e = (Refused r, replies-sheet s reply e)
 
 -- an answer that is no refusal is to an accepted sheet
-pub silent-accepted : (s reply : List ℕ) → {r : Replied} → Replies s reply r → repliedSaid r ≡ none → refusalOf s ≡ none
-silent-accepted s reply {r} h e = go (refusalOf s) refl
+pub silent-accepted : (s reply : List ℕ) → {r : Replied} → Replies mostNodes s reply r → repliedSaid r ≡ none → refusalOf mostNodes s ≡ none
+silent-accepted s reply {r} h e = go (refusalOf mostNodes s) refl
   where
-    go : (o : Option Refusal) → refusalOf s ≡ o → refusalOf s ≡ none
+    go : (o : Option Refusal) → refusalOf mostNodes s ≡ o → refusalOf mostNodes s ≡ none
     go none d = d
     go (some q) d = absurd (let z : _≡_ {A = ℕ} 0 1 = cc (exactly-once _ _ (refused-sheet s reply d) (h .refusals), e) in omega arith)
 
 -- so a failing case is spelled or not
-pub fails-decided : (s reply : List ℕ) → Dec (Replies s reply Fails)
+pub fails-decided : (s reply : List ℕ) → Dec (Replies mostNodes s reply Fails)
 unfolding Answer
 fails-decided s reply = let w = answered s reply in go (w .0) (w .1)
   where
-    go : (r : Replied) → Replies s reply r → Dec (Replies s reply Fails)
+    go : (r : Replied) → Replies mostNodes s reply r → Dec (Replies mostNodes s reply Fails)
     go Unsat h = no (λ g. not-both (h .told) (g .told .1 .spelled))
     go Fails h = yes h
     go (Refused r) h = no (λ g. let z : _≡_ {A = ℕ} 0 1 = cc (exactly-once _ _ (h .refusals) (g .refusals)) in omega arith)

@@ -21,12 +21,12 @@ pub record Near (bytes number place : ℕ) : Type 0 where
   pub low-place : place ≤ max mostNodes bytes
 
 module _ (s reply : List ℕ) where
-  rows-near : Bounded (Near (length reply)) (replyRows s reply)
+  rows-near : Bounded (Near (length reply)) (replyRows mostNodes s reply)
   rows-near =
       bounded-then (record { keeps = λ r a. record { some-number = sheet-small s .keeps r a .some-number; low-place = omega (arith, sheet-small s .keeps r a .low-place) } })
       (λ a. bounded-then (bounded-each (suc (length reply)) 0 (λ k i l. bounded-row 11 k (Row11 s reply k) (λ h. record { some-number = omega arith; low-place = omega arith })))
-      (λ b. bounded-then (bounded-each (variableCount s) 0 (λ k i l. bounded-row 12 k (Row12 s reply k) (λ h. record { some-number = omega arith; low-place = omega (arith, accepted-inside s (sheet-exactly s .passed .1 a) .1) })))
+      (λ b. bounded-then (bounded-each (variableCount s) 0 (λ k i l. bounded-row 12 k (Row12 s reply k) (λ h. record { some-number = omega arith; low-place = omega (arith, accepted-inside s (sheet-exactly mostNodes s .passed .1 a) .1) })))
       (λ c. bounded-row 13 0 (Row13 s reply) (λ h. record { some-number = omega arith; low-place = omega arith }))))
 
-pub reply-near : {s reply : List ℕ} {r : Refusal} → Replies s reply (Refused r) → Near (length reply) (r .number) (r .place)
+pub reply-near : {s reply : List ℕ} {r : Refusal} → Replies mostNodes s reply (Refused r) → Near (length reply) (r .number) (r .place)
 reply-near {s} {reply} h = bounded-answer (rows-near s reply) (h .refusals) refl

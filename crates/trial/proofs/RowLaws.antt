@@ -32,6 +32,7 @@ use Rattle.replies.proofs.SatLaws.{not-both}
 use Rattle.trial.specs.Rows.{Row11, Row12, Row13, replyRows}
 use Rattle.trial.specs.Trying.{isIn, valueRefusal, valuesRefusal, caseRefusal}
 use Rattle.refusals.proofs.EachLaws.{each-none, each-lowest}
+use Rattle.layout.specs.Limits.{mostNodes}
 
 pub decides-in : (d : Range) (x : ℤ) → Decides (isIn d x) (In d x)
 unfolding isIn
@@ -42,19 +43,19 @@ case-fits {v} {s} x = says-reply v s (sat (x .setting) (x .spelled))
 
 module _ (s reply : List ℕ) where
   -- the sheet's own refusal comes first
-  pub refused-sheet : {r : Refusal} → refusalOf s ≡ some r → Exactly (replyRows s reply) (some r)
+  pub refused-sheet : {r : Refusal} → refusalOf mostNodes s ≡ some r → Exactly (replyRows mostNodes s reply) (some r)
   refused-sheet {r} e =
-      let h : Exactly (replyRows s reply) (refusalOf s otherwise none) = exactly-then (sheet-exactly s) (λ d. absurd (let z : _≡_ {A = ℕ} 0 1 = cc (d, e) in omega arith)) in
+      let h : Exactly (replyRows mostNodes s reply) (refusalOf mostNodes s otherwise none) = exactly-then (sheet-exactly mostNodes s) (λ d. absurd (let z : _≡_ {A = ℕ} 0 1 = cc (d, e) in omega arith)) in
       rw e at h
 
-  module _ (e : refusalOf s ≡ none) where
-    after-sheet : {o : Option Refusal} → Exactly (eachOf (λ p. row 11 p (Row11 s reply p)) 0 (suc (length reply)) then eachOf (λ i. row 12 i (Row12 s reply i)) 0 (variableCount s) then row 13 0 (Row13 s reply)) o → Exactly (replyRows s reply) o
+  module _ (e : refusalOf mostNodes s ≡ none) where
+    after-sheet : {o : Option Refusal} → Exactly (eachOf (λ p. row 11 p (Row11 s reply p)) 0 (suc (length reply)) then eachOf (λ i. row 12 i (Row12 s reply i)) 0 (variableCount s) then row 13 0 (Row13 s reply)) o → Exactly (replyRows mostNodes s reply) o
     after-sheet {o} h =
-        let g : Exactly (replyRows s reply) (refusalOf s otherwise o) = exactly-then (sheet-exactly s) (λ d. h) in
+        let g : Exactly (replyRows mostNodes s reply) (refusalOf mostNodes s otherwise o) = exactly-then (sheet-exactly mostNodes s) (λ d. h) in
         rw e at g
 
     -- 11
-    pub refused-11 : {p : ℕ} → Leaves (Reply (variableCount s)) reply p → Exactly (replyRows s reply) (some (record { number = 11; place = p }))
+    pub refused-11 : {p : ℕ} → Leaves (Reply (variableCount s)) reply p → Exactly (replyRows mostNodes s reply) (some (record { number = 11; place = p }))
     refused-11 {p} h =
         after-sheet
         (exactly-then {q = none}
@@ -65,7 +66,7 @@ module _ (s reply : List ℕ) where
     fits-rows h = each-none (Row11 s reply) 11 (suc (length reply)) (λ i l g. no-member (Reply (variableCount s)) g h)
 
     -- unsat is claimed: no row applies
-    pub claimed : Claims reply → Exactly (replyRows s reply) none
+    pub claimed : Claims reply → Exactly (replyRows mostNodes s reply) none
     claimed f =
         after-sheet
         (exactly-then (fits-rows (says-reply (variableCount s) reply (unsat f)))
@@ -86,5 +87,5 @@ module _ (s reply : List ℕ) where
       holds-row : Exactly (row 13 0 (Row13 s reply)) (unless (not (holds (ruleIn s) c)) 13 0)
       holds-row = exactly-row (not (holds (ruleIn s) c)) 13 0 (λ t g. true≢false (sym (rw (← (one-case x (g .1))) at (g .2)) ∙ not-true (holds (ruleIn s) c) t)) (λ t. (c, x, not-false (holds (ruleIn s) c) t))
 
-      pub spelled-case : Exactly (replyRows s reply) (caseRefusal s c)
+      pub spelled-case : Exactly (replyRows mostNodes s reply) (caseRefusal s c)
       spelled-case = after-sheet (exactly-then (fits-rows (case-fits x)) (λ a. exactly-then values-rows (λ b. holds-row)))

@@ -20,7 +20,7 @@ use Rattle.refusals.proofs.SaidLaws.{unless-true, unless-false}
 use Rattle.meaning.specs.Rule.{domainOf, valueIn}
 use Rattle.meaning.specs.Cases.{holds}
 use Rattle.meaning.proofs.Row.{zeros-begin, zeros-kept}
-use Rattle.layout.specs.Limits.{mostVariables}
+use Rattle.layout.specs.Limits.{mostVariables, mostNodes}
 use Rattle.layout.specs.Parts.{variableCount, variableAt, ruleIn}
 use Rattle.reading.specs.Cascade.{refusalOf}
 use Rattle.reading.proofs.RuleLaws.{accepted-inside}
@@ -75,7 +75,7 @@ module _ (s reply : List ℕ) {v : ℕ} (ev : v ≡ variableCount s) {r : Reache
 
 -- ---- what a reply that fits says
 module _ (s reply : List ℕ) (h : Reply (variableCount s) reply) {b : Bool} (e : b ≡ satFirst reply) where
-  pub case-ready : refusalOf s ≡ none → b ≡ true → CaseReady s reply
+  pub case-ready : refusalOf mostNodes s ≡ none → b ≡ true → CaseReady s reply
   case-ready a t =
       let w = sat-exactly (variableCount s) reply h .0 (sym e ∙ t) in
       record { accepted = a; spelled = record { few = accepted-inside s a .1; setting = w .0; spelled = w .1 } }
@@ -84,7 +84,7 @@ module _ (s reply : List ℕ) (h : Reply (variableCount s) reply) {b : Bool} (e 
   claims-unsat t = unsat-exactly (variableCount s) reply h .0 (sym e ∙ t)
 
 -- ---- the row of a reply's case
-module _ (s : List ℕ) (e : refusalOf s ≡ none) {reply : List ℕ} {v : ℕ} (ev : v ≡ variableCount s) {numbers : List ℤ} (w : Numbered v reply (replicate mostVariables (pos 0)) numbers) where
+module _ (s : List ℕ) (e : refusalOf mostNodes s ≡ none) {reply : List ℕ} {v : ℕ} (ev : v ≡ variableCount s) {numbers : List ℤ} (w : Numbered v reply (replicate mostVariables (pos 0)) numbers) where
   pub row-case : SpellsCase (variableCount s) reply (take (variableCount s) numbers)
   row-case = rw ev at (w .case)
 
@@ -104,19 +104,19 @@ module _ (s : List ℕ) (e : refusalOf s ≡ none) {reply : List ℕ} {v : ℕ} 
 
 -- ---- the answer, and the room
 module _ (s reply : List ℕ) (room : List ℤ) where
-  pub into-sheet : {a : Reading} {r : Refusal} → saidOf a ≡ refusalOf s → a ≡ Refused r → RepliesInto s reply room (refused r) room
+  pub into-sheet : {a : Reading} {r : Refusal} → saidOf a ≡ refusalOf mostNodes s → a ≡ Refused r → RepliesInto mostNodes s reply room (refused r) room
   into-sheet e d = record { answer = replies-sheet s reply (sym e ∙ ap saidOf d); room = refl }
 
-  module _ (e : refusalOf s ≡ none) where
-    pub into-11 : {p : ℕ} → Leaves (Reply (variableCount s)) reply p → RepliesInto s reply room (refused (record { number = 11; place = p })) room
+  module _ (e : refusalOf mostNodes s ≡ none) where
+    pub into-11 : {p : ℕ} → Leaves (Reply (variableCount s)) reply p → RepliesInto mostNodes s reply room (refused (record { number = 11; place = p })) room
     into-11 h = record { answer = replies-11 s reply e h; room = refl }
 
-    pub into-unsat : Claims reply → RepliesInto s reply room Unsat room
+    pub into-unsat : Claims reply → RepliesInto mostNodes s reply room Unsat room
     into-unsat f = record { answer = replies-unsat s reply e f; room = refl }
 
     module _ {c : List ℤ} (x : SpellsCase (variableCount s) reply c) {a : Reading} (d : saidOf a ≡ caseRefusal s c) where
-      pub into-case : {r : Refusal} → a ≡ Refused r → RepliesInto s reply room (refused r) room
+      pub into-case : {r : Refusal} → a ≡ Refused r → RepliesInto mostNodes s reply room (refused r) room
       into-case h = record { answer = replies-case s reply e x (sym d ∙ ap saidOf h); room = refl }
 
-      pub into-fails : a ≡ Accepted → {after : List ℤ} → after ≡ c ++ drop (variableCount s) room → RepliesInto s reply room Fails after
+      pub into-fails : a ≡ Accepted → {after : List ℤ} → after ≡ c ++ drop (variableCount s) room → RepliesInto mostNodes s reply room Fails after
       into-fails h g = record { answer = replies-fails s reply e x (sym d ∙ ap saidOf h); room = (c, x, g) }

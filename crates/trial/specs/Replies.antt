@@ -25,8 +25,8 @@ Told s reply Unsat = Claims reply
 Told s reply Fails = (c : List ℤ) × SpellsCase (variableCount s) reply c × Failing (ruleIn s) c
 Told s reply (Refused r) = Unit {0}
 
-pub record Replies (s reply : List ℕ) (r : Replied) : Type 0 where
-  pub refusals : Exactly (replyRows s reply) (repliedSaid r)
+pub record Replies (limit : ℕ) (s reply : List ℕ) (r : Replied) : Type 0 where
+  pub refusals : Exactly (replyRows limit s reply) (repliedSaid r)
   pub told : Told s reply r
 
 -- the room for the case: it stands at the front where it fails, and otherwise nothing has changed
@@ -35,6 +35,6 @@ CaseRoom s reply before Unsat after = after ≡ before
 CaseRoom s reply before Fails after = (c : List ℤ) × SpellsCase (variableCount s) reply c × (after ≡ c ++ drop (variableCount s) before)
 CaseRoom s reply before (Refused r) after = after ≡ before
 
-pub record RepliesInto (s reply : List ℕ) (before : List ℤ) (r : Replied) (after : List ℤ) : Type 0 where
-  pub answer : Replies s reply r
+pub record RepliesInto (limit : ℕ) (s reply : List ℕ) (before : List ℤ) (r : Replied) (after : List ℤ) : Type 0 where
+  pub answer : Replies limit s reply r
   pub room : CaseRoom s reply before r after

@@ -27,9 +27,9 @@ Row12 s reply i = (c : List ℤ) × SpellsCase (variableCount s) reply c × (In 
 abbrev pub Row13 : List ℕ → List ℕ → Type 0
 Row13 s reply = (c : List ℤ) × SpellsCase (variableCount s) reply c × (holds (ruleIn s) c ≡ true)
 
-abbrev pub replyRows : List ℕ → List ℕ → List Row
-replyRows s reply =
-    sheetRows s
+abbrev pub replyRows : ℕ → List ℕ → List ℕ → List Row
+replyRows limit s reply =
+    sheetRows limit s
     then eachOf (λ p. row 11 p (Row11 s reply p)) 0 (suc (length reply))
     then eachOf (λ i. row 12 i (Row12 s reply i)) 0 (variableCount s)
     then row 13 0 (Row13 s reply)

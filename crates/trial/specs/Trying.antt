@@ -13,6 +13,7 @@ use Rattle.refusals.specs.declared.Refusal.{Refusal}
 use Rattle.refusals.specs.Said.{unless}
 use Rattle.meaning.specs.Rule.{domainOf, valueIn}
 use Rattle.meaning.specs.Cases.{holds}
+use Rattle.layout.specs.Limits.{mostNodes}
 use Rattle.layout.specs.Parts.{variableCount, ruleIn}
 use Rattle.reading.specs.Cascade.{refusalOf}
 use Rattle.digits.specs.Ready.{CaseSpelled}
@@ -35,11 +36,11 @@ caseRefusal s c = valuesRefusal s c otherwise unless (not (holds (ruleIn s) c)) 
 
 -- the sheet is accepted, and the row has a number for each variable and 0 behind them
 pub record NumbersReady (s : List ℕ) (numbers : List ℤ) : Type 0 where
-  pub accepted : refusalOf s ≡ none
+  pub accepted : refusalOf mostNodes s ≡ none
   pub present : variableCount s ≤ length numbers
   pub zeros : (i : ℕ) → variableCount s ≤ i → getD numbers i (pos 0) ≡ pos 0
 
 -- the sheet is accepted, and the reply spells a setting of its variables
 pub record CaseReady (s reply : List ℕ) : Type 0 where
-  pub accepted : refusalOf s ≡ none
+  pub accepted : refusalOf mostNodes s ≡ none
   pub spelled : CaseSpelled (variableCount s) reply

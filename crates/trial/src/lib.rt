@@ -4,7 +4,7 @@ ghost use mathlib.Core.Option.{none};
 ghost use Prim.Native.Nat.{_≤_};
 ghost use lib.ListN.{length, take};
 ghost use Rattle.refusals.specs.Said.{saidOf};
-ghost use Rattle.layout.specs.Limits.{blockBytes, mostVariables};
+ghost use Rattle.layout.specs.Limits.{blockBytes, mostVariables, mostNodes};
 ghost use Rattle.layout.specs.Parts.{variableCount};
 ghost use Rattle.reading.specs.Cascade.{refusalOf};
 ghost use Rattle.replies.specs.Replies.{Reply};
@@ -74,7 +74,7 @@ fn case_fails(sheet: &[u8], case: &[i32; MOST_VARIABLES]) -> Reading
 // Tries the case that a reply spells.
 fn try_case(sheet: &[u8], reply: &[u8], room: &mut [i16; MOST_VARIABLES]) -> Replied
     requires { ⌜ CaseReady (now sheet) (now reply) ⌝ }
-    ensures { λ r. ⌜ RepliesInto (now (sheet .entry)) (now (reply .entry)) (now (room .entry)) r (now (room .exit)) ⌝ }
+    ensures { λ r. ⌜ RepliesInto mostNodes (now (sheet .entry)) (now (reply .entry)) (now (room .entry)) r (now (room .exit)) ⌝ }
 {
     let v = header::variable_count(sheet);
     let mut case = [0i32; MOST_VARIABLES];
@@ -91,8 +91,8 @@ fn try_case(sheet: &[u8], reply: &[u8], room: &mut [i16; MOST_VARIABLES]) -> Rep
 
 // What a reply that fits says.
 fn said(sheet: &[u8], reply: &[u8], room: &mut [i16; MOST_VARIABLES]) -> Replied
-    requires { ⌜ (refusalOf (now sheet) ≡ none) × Reply (variableCount (now sheet)) (now reply) ⌝ }
-    ensures { λ r. ⌜ RepliesInto (now (sheet .entry)) (now (reply .entry)) (now (room .entry)) r (now (room .exit)) ⌝ }
+    requires { ⌜ (refusalOf mostNodes (now sheet) ≡ none) × Reply (variableCount (now sheet)) (now reply) ⌝ }
+    ensures { λ r. ⌜ RepliesInto mostNodes (now (sheet .entry)) (now (reply .entry)) (now (room .entry)) r (now (room .exit)) ⌝ }
 {
     if replies::says_sat(reply) {
         return try_case(sheet, reply, room);
@@ -102,8 +102,8 @@ fn said(sheet: &[u8], reply: &[u8], room: &mut [i16; MOST_VARIABLES]) -> Replied
 
 // 11: the first byte that fits no reply; else what the reply says.
 fn read_reply(sheet: &[u8], reply: &[u8], room: &mut [i16; MOST_VARIABLES]) -> Replied
-    requires { ⌜ refusalOf (now sheet) ≡ none ⌝ }
-    ensures { λ r. ⌜ RepliesInto (now (sheet .entry)) (now (reply .entry)) (now (room .entry)) r (now (room .exit)) ⌝ }
+    requires { ⌜ refusalOf mostNodes (now sheet) ≡ none ⌝ }
+    ensures { λ r. ⌜ RepliesInto mostNodes (now (sheet .entry)) (now (reply .entry)) (now (room .entry)) r (now (room .exit)) ⌝ }
 {
     let reach = replies::reach(reply, header::variable_count(sheet));
     match reach {
@@ -114,7 +114,7 @@ fn read_reply(sheet: &[u8], reply: &[u8], room: &mut [i16; MOST_VARIABLES]) -> R
 
 // What a reply comes to, with a failing case at the front of the room.
 pub fn reply_into(sheet: &[u8], reply: &[u8], room: &mut [i16; MOST_VARIABLES]) -> Replied
-    ensures { λ r. ⌜ RepliesInto (now (sheet .entry)) (now (reply .entry)) (now (room .entry)) r (now (room .exit)) ⌝ }
+    ensures { λ r. ⌜ RepliesInto mostNodes (now (sheet .entry)) (now (reply .entry)) (now (room .entry)) r (now (room .exit)) ⌝ }
 {
     let reading = reading::read(sheet);
     match reading {
@@ -125,7 +125,7 @@ pub fn reply_into(sheet: &[u8], reply: &[u8], room: &mut [i16; MOST_VARIABLES]) 
 
 // What a reply comes to.
 pub fn reply(sheet: &[u8], reply: &[u8]) -> Replied
-    ensures { λ r. ⌜ Replies (now (sheet .entry)) (now (reply .entry)) r ⌝ }
+    ensures { λ r. ⌜ Replies mostNodes (now (sheet .entry)) (now (reply .entry)) r ⌝ }
 {
     let mut room = [0i16; MOST_VARIABLES];
     reply_into(sheet, reply, &mut room)
@@ -133,8 +133,8 @@ pub fn reply(sheet: &[u8], reply: &[u8]) -> Replied
 
 // The span of a variable's digits in a reply that spells a failing case; both numbers 0 where the variable isn't listed.
 fn listed_span(sheet: &[u8], reply: &[u8], variable: VariableNumber) -> Span
-    requires { ⌜ Replies (now sheet) (now reply) Replied.Fails ⌝ }
-    ensures { λ r. ⌜ DigitsSpan (now (sheet .entry)) (now (reply .entry)) (variable .0) (r .start) (r .size) ⌝ }
+    requires { ⌜ Replies mostNodes (now sheet) (now reply) Replied.Fails ⌝ }
+    ensures { λ r. ⌜ DigitsSpan mostNodes (now (sheet .entry)) (now (reply .entry)) (variable .0) (r .start) (r .size) ⌝ }
 {
     let i = variable.0 as usize;
     if header::variable_count(sheet) <= i {
@@ -145,7 +145,7 @@ fn listed_span(sheet: &[u8], reply: &[u8], variable: VariableNumber) -> Span
 
 // Where a variable's digits start, and how many they are; both 0 where nothing is given.
 pub fn digits_span(sheet: &[u8], reply: &[u8], variable: VariableNumber) -> Span
-    ensures { λ r. ⌜ DigitsSpan (now (sheet .entry)) (now (reply .entry)) (variable .0) (r .start) (r .size) ⌝ }
+    ensures { λ r. ⌜ DigitsSpan mostNodes (now (sheet .entry)) (now (reply .entry)) (variable .0) (r .start) (r .size) ⌝ }
 {
     let replied = crate::reply(sheet, reply);
     match replied {
@@ -157,7 +157,7 @@ pub fn digits_span(sheet: &[u8], reply: &[u8], variable: VariableNumber) -> Span
 
 // A variable's digits alone, as the very part of the reply; an empty part where nothing is given.
 pub fn digits<'a>(sheet: &[u8], reply: &'a [u8], variable: VariableNumber) -> &'a [u8]
-    ensures { λ r. ⌜ DigitsPart (now (sheet .entry)) (reply .entry) (variable .0) r ⌝ }
+    ensures { λ r. ⌜ DigitsPart mostNodes (now (sheet .entry)) (reply .entry) (variable .0) r ⌝ }
 {
     let span = digits_span(sheet, reply, variable);
     let start = span.start;

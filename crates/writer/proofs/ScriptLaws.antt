@@ -15,7 +15,7 @@ use Rattle.lists.proofs.JoinedLaws.{joined-append}
 use Rattle.meaning.specs.declared.Sort.the-variants.{Truth}
 use Rattle.meaning.specs.Tree.{Tree, neg}
 use Rattle.meaning.specs.Rule.{Variable}
-use Rattle.layout.specs.Limits.{blockBytes}
+use Rattle.layout.specs.Limits.{blockBytes, mostNodes}
 use Rattle.layout.specs.Fold.{ofTree}
 use Rattle.layout.specs.Parts.{goalAt, variableCount, variableAt, table, ruleIn}
 use Rattle.layout.proofs.FoldLaws.{goal-found}
@@ -131,7 +131,7 @@ flat-goal : (a o w b t e n z : List ℕ) → a ++ (o ++ (w ++ (b ++ (t ++ e))) +
 flat-goal a o w b t e n z = simp append-assoc
 
 -- ---- an accepted sheet
-module _ (s : List ℕ) (e : refusalOf s ≡ none) where
+module _ (s : List ℕ) (e : refusalOf mostNodes s ≡ none) where
   goal-text : text literal symbolText (ruleIn s .goal) ≡ textAt s (goalAt s)
   unfolding textAt
   goal-text = sym (goal-found (textStep literal symbolText) [] (table s) (accepted-sound s e))
@@ -149,7 +149,7 @@ module _ (s : List ℕ) (e : refusalOf s ≡ none) where
   first-block = block-inside (accepted-counted s e)
 
 -- its script, at 16 bits with models or without
-module _ (m : Bool) (s : List ℕ) (e : refusalOf s ≡ none) where
+module _ (m : Bool) (s : List ℕ) (e : refusalOf mostNodes s ≡ none) where
   goal-is : negated m s ++ ascii "(check-sat)\n" ≡ goalLines s
   unfolding goalLines ofTree
   goal-is =

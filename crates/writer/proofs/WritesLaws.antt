@@ -14,6 +14,7 @@ use Rattle.refusals.specs.declared.Reading.{Reading}
 use Rattle.refusals.specs.declared.Reading.the-variants.{Accepted, Refused as refused}
 use Rattle.refusals.specs.Said.{saidOf}
 use Rattle.refusals.proofs.AfterLaws.{passes, stops}
+use Rattle.layout.specs.Limits.{mostNodes}
 use Rattle.reading.specs.Cascade.{refusalOf}
 use Rattle.wording.specs.Form.{Form}
 use Rattle.wording.specs.Script.{script}
@@ -23,27 +24,27 @@ use Rattle.writer.specs.declared.Written.{Written}
 use Rattle.writer.specs.declared.Written.the-variants.{Script, Refused}
 use Rattle.writer.specs.Writes.{scriptRefusal, writtenSaid, scriptVerdict, scriptRoom, Writes}
 
-pub sheet-accepted : (s : List ℕ) {a : Reading} → saidOf a ≡ refusalOf s → a ≡ Accepted → refusalOf s ≡ none
+pub sheet-accepted : (s : List ℕ) {a : Reading} → saidOf a ≡ refusalOf mostNodes s → a ≡ Accepted → refusalOf mostNodes s ≡ none
 sheet-accepted s e d = sym e ∙ ap saidOf d
 
 module _ (f : Form) (s : List ℕ) where
   -- what the refusal makes of the answer and of the room
-  refused-with : (before : List ℕ) {r : Refusal} → scriptRefusal f s (length before) ≡ some r → Writes f s before (Refused r) before
+  refused-with : (before : List ℕ) {r : Refusal} → scriptRefusal mostNodes f s (length before) ≡ some r → Writes mostNodes f s before (Refused r) before
   refused-with before d = record { answer = ap (λ (o : Option Refusal). scriptVerdict o (script f (ruleIn s))) (sym d); room = ap (λ (o : Option Refusal). scriptRoom o (script f (ruleIn s)) before) (sym d) }
 
-  pub sheet-refused : (before : List ℕ) {a : Reading} {r : Refusal} → saidOf a ≡ refusalOf s → a ≡ refused r → Writes f s before (Refused r) before
+  pub sheet-refused : (before : List ℕ) {a : Reading} {r : Refusal} → saidOf a ≡ refusalOf mostNodes s → a ≡ refused r → Writes mostNodes f s before (Refused r) before
   unfolding scriptRefusal
   sheet-refused before e d = refused-with before (otherwise-some _ (sym e ∙ ap saidOf d))
 
-  module _ (ok : refusalOf s ≡ none) where
-    pub room-short : (before : List ℕ) {n : ℕ} → n ≡ length (script f (ruleIn s)) → length before < n → Writes f s before (Refused (record { number = 9; place = n })) before
+  module _ (ok : refusalOf mostNodes s ≡ none) where
+    pub room-short : (before : List ℕ) {n : ℕ} → n ≡ length (script f (ruleIn s)) → length before < n → Writes mostNodes f s before (Refused (record { number = 9; place = n })) before
     unfolding scriptRefusal
     room-short before e l = refused-with before (stops (length (script f (ruleIn s))) (length before) 9 _ ok (omega arith) ∙ ap (λ (n : ℕ). some (record { number = 9; place = n })) (sym e))
 
-    pub script-written : {before after : List ℕ} {n : ℕ} → length (script f (ruleIn s)) ≤ length before → Wrote (script f (ruleIn s)) before after 0 n → Writes f s before (Script n) after
+    pub script-written : {before after : List ℕ} {n : ℕ} → length (script f (ruleIn s)) ≤ length before → Wrote (script f (ruleIn s)) before after 0 n → Writes mostNodes f s before (Script n) after
     unfolding scriptRefusal
     script-written {before} {after} l w =
-        let d : scriptRefusal f s (length before) ≡ none = passes (length (script f (ruleIn s))) (length before) 9 _ ok l in
+        let d : scriptRefusal mostNodes f s (length before) ≡ none = passes (length (script f (ruleIn s))) (length before) 9 _ ok l in
         record {
           answer = ap (λ (k : ℕ). (none, k)) (w .place ∙ zero-add _) ∙ ap (λ (o : Option Refusal). scriptVerdict o (script f (ruleIn s))) (sym d);
           room = wrote-over w ∙ ap (λ (o : Option Refusal). scriptRoom o (script f (ruleIn s)) before) (sym d);
@@ -54,9 +55,9 @@ over-length : (t room : List ℕ) → length t ≤ length (over t room)
 unfolding over
 over-length t room = omega (arith, length-append t (drop (length t) room))
 
-module _ {f : Form} (s : List ℕ) {before after : List ℕ} {a : Written} (c : Writes f s before a after) {n : ℕ} (d : a ≡ Script n) where
+module _ {f : Form} (s : List ℕ) {before after : List ℕ} {a : Written} (c : Writes mostNodes f s before a after) {n : ℕ} (d : a ≡ Script n) where
   pub script-fits : n ≤ length after
-  script-fits = go (scriptRefusal f s (length before)) (sym (c .answer) ∙ ap writtenSaid d) (c .room)
+  script-fits = go (scriptRefusal mostNodes f s (length before)) (sym (c .answer) ∙ ap writtenSaid d) (c .room)
     where
       go : (o : Option Refusal) → scriptVerdict o (script f (ruleIn s)) ≡ (none, n) → after ≡ scriptRoom o (script f (ruleIn s)) before → n ≤ length after
       go none w e = omega (arith, over-length (script f (ruleIn s)) before, ap length e, ap (λ (p : Option Refusal × ℕ). p .1) w)

@@ -13,5 +13,5 @@ abbrev pub Row9 : Form → List ℕ → ℕ → Type 0
 Row9 f s room = room < length (script f (ruleIn s))
 
 -- with room for so many bytes
-abbrev pub scriptRows : Form → List ℕ → ℕ → List Row
-scriptRows f s room = sheetRows s then row 9 (length (script f (ruleIn s))) (Row9 f s room)
+abbrev pub scriptRows : ℕ → Form → List ℕ → ℕ → List Row
+scriptRows limit f s room = sheetRows limit s then row 9 (length (script f (ruleIn s))) (Row9 f s room)

@@ -17,8 +17,8 @@ use Rattle.writer.specs.declared.Written.the-variants.{Script, Refused}
 use Rattle.room.specs.Room.{over}
 
 -- the sheet's own refusal, then 9 at the script's bytes: a room of fewer bytes
-unfoldable pub scriptRefusal : Form → List ℕ → ℕ → Option Refusal
-scriptRefusal f s room = refusalOf s otherwise unless (leb (length (script f (ruleIn s))) room) 9 (length (script f (ruleIn s)))
+unfoldable pub scriptRefusal : ℕ → Form → List ℕ → ℕ → Option Refusal
+scriptRefusal limit f s room = refusalOf limit s otherwise unless (leb (length (script f (ruleIn s))) room) 9 (length (script f (ruleIn s)))
 
 -- a room of so many bytes is enough for both scripts of every accepted sheet
 abbrev pub enoughRoom : ℕ
@@ -38,6 +38,6 @@ abbrev pub scriptRoom : Option Refusal → List ℕ → List ℕ → List ℕ
 scriptRoom none t room = over t room
 scriptRoom (some r) t room = room
 
-pub record Writes (f : Form) (s before : List ℕ) (r : Written) (after : List ℕ) : Type 0 where
-  pub answer : writtenSaid r ≡ scriptVerdict (scriptRefusal f s (length before)) (script f (ruleIn s))
-  pub room : after ≡ scriptRoom (scriptRefusal f s (length before)) (script f (ruleIn s)) before
+pub record Writes (limit : ℕ) (f : Form) (s before : List ℕ) (r : Written) (after : List ℕ) : Type 0 where
+  pub answer : writtenSaid r ≡ scriptVerdict (scriptRefusal limit f s (length before)) (script f (ruleIn s))
+  pub room : after ≡ scriptRoom (scriptRefusal limit f s (length before)) (script f (ruleIn s)) before

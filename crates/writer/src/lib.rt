@@ -3,7 +3,7 @@ ghost use mathlib.Core.Path.{_≡_};
 ghost use mathlib.Core.Option.{none};
 ghost use Prim.Native.Nat.{_+_, _≤_};
 ghost use lib.ListN.{length};
-ghost use Rattle.layout.specs.Limits.{mostVariables};
+ghost use Rattle.layout.specs.Limits.{mostVariables, mostNodes};
 ghost use Rattle.layout.specs.Parts.{goalAt, ruleIn};
 ghost use Rattle.reading.specs.Cascade.{refusalOf};
 ghost use Rattle.wording.specs.Form.{formOf};
@@ -69,7 +69,7 @@ fn opening(form: ScriptForm, room: &mut [u8], count: usize) -> usize
 
 // The last node.
 fn goal_node(sheet: &[u8]) -> NodeNumber
-    requires { ⌜ refusalOf (now sheet) ≡ none ⌝ }
+    requires { ⌜ refusalOf mostNodes (now sheet) ≡ none ⌝ }
     ensures { λ r. ⌜ r .0 ≡ goalAt (now (sheet .entry)) ⌝ }
 {
     NodeNumber((header::node_count(sheet) - 1) as u16)
@@ -77,7 +77,7 @@ fn goal_node(sheet: &[u8]) -> NodeNumber
 
 // The line of the negated goal, and the command behind it.
 fn goal_lines(sheet: &[u8], room: &mut [u8], at: usize) -> usize
-    requires { ⌜ (refusalOf (now sheet) ≡ none) × (at + length (goalLines (now sheet)) ≤ length (now room)) ⌝ }
+    requires { ⌜ (refusalOf mostNodes (now sheet) ≡ none) × (at + length (goalLines (now sheet)) ≤ length (now room)) ⌝ }
     ensures { λ r. ⌜ Wrote (goalLines (now (sheet .entry))) (now (room .entry)) (now (room .exit)) at r ⌝ }
 {
     let goal = goal_node(sheet);
@@ -109,7 +109,7 @@ fn ending(form: ScriptForm, room: &mut [u8], at: usize, count: usize) -> usize
 
 // The script, to the front of the room; its bytes.
 fn put_script(sheet: &[u8], form: ScriptForm, room: &mut [u8]) -> usize
-    requires { ⌜ (refusalOf (now sheet) ≡ none) × (length (script (formOf form) (ruleIn (now sheet))) ≤ length (now room)) ⌝ }
+    requires { ⌜ (refusalOf mostNodes (now sheet) ≡ none) × (length (script (formOf form) (ruleIn (now sheet))) ≤ length (now room)) ⌝ }
     ensures { λ r. ⌜ Wrote (script (formOf form) (ruleIn (now (sheet .entry)))) (now (room .entry)) (now (room .exit)) 0 r ⌝ }
 {
     let count = header::variable_count(sheet);
@@ -133,7 +133,7 @@ fn models_len(form: ScriptForm, count: usize) -> usize
 
 // The length of the script.
 fn script_len(sheet: &[u8], form: ScriptForm) -> usize
-    requires { ⌜ refusalOf (now sheet) ≡ none ⌝ }
+    requires { ⌜ refusalOf mostNodes (now sheet) ≡ none ⌝ }
     ensures { λ r. ⌜ r ≡ length (script (formOf form) (ruleIn (now (sheet .entry)))) ⌝ }
 {
     let count = header::variable_count(sheet);
@@ -143,8 +143,8 @@ fn script_len(sheet: &[u8], form: ScriptForm) -> usize
 
 // The script of an accepted sheet, or refusal 9 at the bytes that it needs.
 fn write_accepted(sheet: &[u8], form: ScriptForm, room: &mut [u8]) -> Written
-    requires { ⌜ refusalOf (now sheet) ≡ none ⌝ }
-    ensures { λ r. ⌜ Writes (formOf form) (now (sheet .entry)) (now (room .entry)) r (now (room .exit)) ⌝ }
+    requires { ⌜ refusalOf mostNodes (now sheet) ≡ none ⌝ }
+    ensures { λ r. ⌜ Writes mostNodes (formOf form) (now (sheet .entry)) (now (room .entry)) r (now (room .exit)) ⌝ }
 {
     let size = script_len(sheet, form);
     if room.len() < size {
@@ -158,7 +158,7 @@ fn write_accepted(sheet: &[u8], form: ScriptForm, room: &mut [u8]) -> Written
 
 // The script to the front of the room; a refusal leaves the room untouched.
 pub fn write_script(sheet: &[u8], form: ScriptForm, room: &mut [u8]) -> Written
-    ensures { λ r. ⌜ Writes (formOf form) (now (sheet .entry)) (now (room .entry)) r (now (room .exit)) ⌝ }
+    ensures { λ r. ⌜ Writes mostNodes (formOf form) (now (sheet .entry)) (now (room .entry)) r (now (room .exit)) ⌝ }
 {
     match reading::read(sheet) {
         Reading::Refused(refusal) => Written::Refused(refusal),

@@ -1,13 +1,14 @@
 -- `trial::digits_span` meets its contract: nothing is given unless a failing case is spelled. Assumes nothing.
 use mathlib.Core.Path.{subst}
 use borrow.Author.Needs.{needs}
+use Rattle.layout.specs.Limits.{mostNodes}
 use Rattle.trial.specs.Replies.{Replies}
 use Rattle.trial.proofs.GivenLaws.{no-span, unsat-none, refused-none}
 use Rattle.trial.proofs.digits_span.Statement.{statement}
 use Rattle.trial.proofs.digits_span.Tie as tie
 
 listed-span-requires : tie.Need-listed-span-requires
-listed-span-requires c κs = subst (Replies _ _) (c .enum-told3 .given .1) (c .before .before .reply .ensures)
+listed-span-requires c κs = subst (Replies mostNodes _ _) (c .enum-told3 .given .1) (c .before .before .reply .ensures)
 
 returns : tie.Need-returns
 returns c = no-span _ _ _ (unsat-none _ _ (c .before .before .reply .ensures) (c .enum-told .given .1))
