@@ -77,7 +77,9 @@ use Rattle.trial.specs.Replies.{Replies}
 use Rattle.trial.specs.Digits.{DigitsPart}
 use Rattle.agreement.specs.Starred.{sheetFrom, sheetA, sheet8, sheet11}
 use Rattle.agreement.specs.Statements.{Sheet, settingOf, Matched, SettingsListed}
+use Rattle.agreement.specs.Raised.{SameAnswers, OverLimit, nodes as too-many}
 use Rattle.agreement.proofs.Rooms.{rooms-kept}
+use Rattle.agreement.proofs.Raised.{accepted-kept}
 use Rattle.agreement.proofs.Believed.{replies-believed, replies-satisfy, digits-read}
 use Rattle.agreement.proofs.Proved.{held as held-in-16}
 use Rattle.agreement.proofs.Proved.{tallied, checked, sheet-of-rule, rule-of-sheet, one-byte-changed, holds-where, first-named, in-sixteen, room-enough, name-empty, block-empty, match, match-in-bits, check-agrees, tally-agrees, same-script}
@@ -86,6 +88,7 @@ use Rattle.agreement.proofs.Proved.{tallied, checked, sheet-of-rule, ru
 pub record Facts : Type 0 where
   pub are-bytes : Bool × Bool
   pub refusals : Option Refusal × Option Refusal
+  pub at-248 : Option Refusal
   pub variables : ℕ
   pub size : ℕ
   pub cases : ℕ
@@ -97,6 +100,7 @@ abbrev pub factsOf : List ℕ → List ℕ → Facts
 factsOf s other = record {
   are-bytes = (areBytes s, areBytes other);
   refusals = (refusalOf mostNodes s, refusalOf mostNodes other);
+  at-248 = refusalOf 248 s;
   variables = variableCount s;
   size = length s;
   cases = caseCount (ruleIn s);
@@ -107,7 +111,7 @@ factsOf s other = record {
 
 -- two variables in two blocks, so many cases that held and failed, and the first that failed
 abbrev pub accepting : ℕ → ℕ → Option (List ℤ) → Facts
-accepting h f c = record { are-bytes = (true, true); refusals = (none, none); variables = 2; size = 1024; cases = h + f; first = c; held-cases = h; failed-cases = f }
+accepting h f c = record { are-bytes = (true, true); refusals = (none, none); at-248 = none; variables = 2; size = 1024; cases = h + f; first = c; held-cases = h; failed-cases = f }
 
 pub record Computed (s other : List ℕ) (heldCases failedCases : ℕ) (firstCase : Option (List ℤ)) : Type 0 where
   pub facts : factsOf s other ≡ accepting heldCases failedCases firstCase
@@ -150,6 +154,10 @@ module _ {s other : List ℕ} {heldCases failedCases : ℕ} {firstCase : Option 
 
   pub byte-changed : (j b : ℕ) → j < 1024 → b < 256 → (b ≡ byteAt s j → ⊥) → refusalOf mostNodes (set s j b) ≡ some (record { number = 2; place = j / blockBytes })
   byte-changed j b h = one-byte-changed s sheet j b (rw (fact (λ (x : Facts). x .size)) h)
+
+  -- the limit of 248 nodes accepts it too, so its answers there are these
+  pub kept : SameAnswers 248 mostNodes s
+  kept = accepted-kept 248 mostNodes (lit≤ tt) s (sheet-exactly 248 s .passed .0 (fact (λ (x : Facts). x .at-248))) .1
 
   module _ (models : Bool) where
     pub script-fits : length (script (sixteen models) (ruleIn s)) ≤ enoughRoom
@@ -250,6 +258,14 @@ two-settings-A = as-many computedA (lit≤ tt)
 
 pub names-alone-A : (models : Bool) → (length sheetA ≡ length sheetB) × (byteAt sheetA 10 ≡ byteAt sheetB 10)
 names-alone-A models = (same-size computedA (lit≤ tt) models, same-domain computedA (lit≤ tt) models)
+
+pub kept-A : SameAnswers 248 mostNodes sheetA
+kept-A = kept computedA (lit≤ tt)
+
+-- its three nodes are too many for a limit of two
+pub over-A : OverLimit 2 sheetA
+unfolding allBelow below course first dec isNarrow hasNarrowEnds leastOf greatestOf find kindOf weighted checkOf blockRight startAt ofNode lengthRight early zeros countsRight tailClear outsideClear header isLetter isNameByte allNameBytes nameRight sameBytes variableRight fresh findingOf rightlyPlaced typed nodeRefusal nodes refusalOf
+over-A = too-many (lit< tt) refl
 
 pub unsatisfiable-11 : (models : Bool) (t : List ℕ) → Satisfies (script (sixteen models) (ruleIn sheet11)) t → ⊥
 unsatisfiable-11 models = no-setting computed11 (lit≤ tt) three refl models refl

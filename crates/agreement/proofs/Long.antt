@@ -1,12 +1,10 @@
 -- Some script is longer than 4,096 bytes: that of a goal under many negations. Assumes nothing.
 use Prim.Native.Nat.{ℕ, zero, suc, _+_, _*_, _≤_, _<_}
-use mathlib.Core.Path.{_≡_, refl, sym, ap, _∙_}
+use mathlib.Core.Path.{_≡_, refl}
 use mathlib.Core.Bool.{Bool, true, false}
-use mathlib.Core.List.{List, [], _++_}
+use mathlib.Core.List.{List, []}
 use native.Mathlib.Omega.{arith}
-use lib.IntN.{ℤ}
 use lib.ListN.{length, length-append}
-use Rattle.lists.specs.Ascii.{ascii}
 use Rattle.meaning.specs.declared.Sort.{Sort}
 use Rattle.meaning.specs.declared.Sort.the-variants.{Truth, Integer}
 use Rattle.meaning.specs.Tree.{Tree, tru, neg}
@@ -17,11 +15,10 @@ use Rattle.kinds.proofs.ClaimLaws.{Throughout, throughout-make, throughout-part
 use Rattle.layout.specs.Limits.{mostNodes}
 use Rattle.layout.specs.Fold.{ofTree}
 use Rattle.layout.specs.Nodes.{nodesOf}
-use Rattle.layout.specs.WellFormed.{WellFormed}
 use Rattle.layout.specs.Sheet.{sheetOf}
 use Rattle.layout.specs.Parts.{ruleIn}
 use Rattle.findings.specs.Findings.{findingOf}
-use Rattle.reading.specs.Lawful.{FitsIn, Lawful, Allowed}
+use Rattle.reading.specs.Lawful.{FitsIn, Allowed}
 use Rattle.wording.specs.Form.{sixteen}
 use Rattle.wording.specs.Text.{text}
 use Rattle.wording.specs.Sixteen.{literal, symbolText}

@@ -9,7 +9,6 @@ use mathlib.Core.Option.{some}
 use lib.IntN.{ℤ}
 use lib.ListN.{length}
 use denote.Ref.{RefT}
-use Rattle.refusals.specs.declared.Refusal.{Refusal}
 use Rattle.layout.specs.Limits.{sheetBytes}
 use Rattle.layout.specs.Parts.{nodeCount, ruleIn}
 use Rattle.reading.specs.Rows.{Accepted}

@@ -1,6 +1,6 @@
 -- Document 01's table "When a sheet is turned away", rows 1 to 8, each a proposition, and their order, a list. Nothing here is a test of the reading's own.
 -- `limit` is the most nodes that a sheet may have.
-use Prim.Native.Nat.{ℕ, _+_, _*_, _/_, _%_, _≤_, _<_}
+use Prim.Native.Nat.{ℕ, _+_, _/_, _%_, _≤_, _<_}
 use mathlib.Core.Path.{_≡_}
 use mathlib.Core.List.{List}
 use lib.ListN.{length}
