@@ -56,10 +56,6 @@ pub struct Tree {
 }
 
 impl Tree {
-    pub fn size(&self) -> usize {
-        1 + self.operands.iter().map(Tree::size).sum::<usize>()
-    }
-
     pub fn reads(&self, variable: usize) -> bool {
         let itself = self.kind.number == VARIABLE.number && self.leaf == variable as i64;
         itself || self.operands.iter().any(|operand| operand.reads(variable))

@@ -113,12 +113,13 @@ fn number(line: usize, word: &str) -> Said<i64> {
 /// The rule with the goal that these words say; the first of them is 'goal'.
 fn with_goal(variables: Vec<Variable>, words: &[Word]) -> Said<Rule> {
     let (begin, mut rest) = words.split_first().ok_or("there is no goal")?;
+    // A word is a node. They are counted first, so that no goal is deeper than a sheet's can be.
+    if rest.len() > MOST_NODES {
+        return wrong(begin.0, format!("the goal has {} nodes, a sheet at most {}", rest.len(), MOST_NODES));
+    }
     let goal = operand(&variables, &mut rest, *begin, Sort::Truth)?;
     if let Some(&(line, word)) = rest.first() {
         return wrong(line, format!("'{}' comes after the end of the goal", word));
-    }
-    if goal.size() > MOST_NODES {
-        return wrong(begin.0, format!("the goal has {} nodes, a sheet at most {}", goal.size(), MOST_NODES));
     }
     Ok(Rule { variables, goal })
 }
