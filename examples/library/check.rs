@@ -12,6 +12,10 @@ extern "C" {
     fn ragwashin_script(sheet: *const u8, sheet_len: usize, room: *mut u8, room_len: usize) -> u64;
 }
 
+/// Rooms that always do, in numbers and in bytes.
+const CHECK_ROOM: usize = 16;
+const SCRIPT_ROOM: usize = 20_480;
+
 /// What was asked for, or the refusal: the high 16 bits are its number, the low 48 bits its place.
 fn answer(code: u64) -> Result<u64, String> {
     let low = code & ((1 << 48) - 1);
@@ -32,7 +36,7 @@ fn name(sheet: &[u8], variable: u16) -> Option<&str> {
 }
 
 fn check(sheet: &[u8]) -> Result<String, String> {
-    let mut room = [0i16; 16];
+    let mut room = [0i16; CHECK_ROOM];
     let code = unsafe { ragwashin_check(sheet.as_ptr(), sheet.len(), room.as_mut_ptr(), room.len()) };
     if answer(code)? == 0 {
         return Ok("holds".to_string());
@@ -47,7 +51,7 @@ fn tally(sheet: &[u8]) -> Result<String, String> {
 }
 
 fn script(sheet: &[u8]) -> Result<String, String> {
-    let mut room = [0u8; 4_096];
+    let mut room = [0u8; SCRIPT_ROOM];
     let code = unsafe { ragwashin_script(sheet.as_ptr(), sheet.len(), room.as_mut_ptr(), room.len()) };
     Ok(format!("{} bytes", answer(code)?))
 }

@@ -18,7 +18,7 @@ static int refused(uint64_t answer) {
 }
 
 static void ask(void) {
-    uint8_t room[RAGWASHIN_SCRIPT_ROOM];
+    static uint8_t room[RAGWASHIN_SCRIPT_ROOM];
     uint64_t answer = ragwashin_ask(sheet, sheet_len, room, sizeof room);
     if (!refused(answer))
         fwrite(room, 1, answer, stdout);

@@ -1,5 +1,5 @@
 /* Paints the stack below a place, and tells how far down the paint has gone since. */
-enum { PAINTED = 1 << 18 };
+enum { PAINTED = 1 << 20 };
 static const unsigned long PAINT = 0x5aa5c33c96690ff0;
 
 /* Has the system give the stack as far down as it is to be painted. */
