@@ -8,7 +8,7 @@
      uses the room.
    - Calls keep nothing from one to the next and share no data: several threads may call at once, also with the
      same sheet, if each has a room of its own.
-   - A call takes at most 32 KB of stack (32,768 bytes; measured, see README.md), no heap, and of the C library
+   - A call takes at most 256 KB of stack (262,144 bytes; measured, see README.md), no heap, and of the C library
      memcpy and memset alone.
 
    What a call owes: whatever the bytes and numbers, it returns, reads no byte that isn't lent, and writes to

@@ -2,7 +2,7 @@
 ghost use mathlib.Core.Path.{_≡_};
 ghost use Prim.Native.Nat.{_+_, _*_, _≤_, _<_};
 ghost use lib.ListN.{length};
-ghost use Rattle.layout.specs.Limits.{blockBytes, contentBytes, mostVariables, mostNodes, blocksFor, mostBlocks};
+ghost use Rattle.layout.specs.Limits.{blockBytes, contentBytes, mostVariables, mostNodes, sheetBytes, mostBlocks};
 ghost use Rattle.layout.specs.Parts.{nodeCount, variableCount};
 ghost use Rattle.refusals.specs.Said.{saidOf};
 ghost use Rattle.header.specs.Header.{zeros, countsRight, usedIn, tailClear, outsideClear, header};
@@ -102,7 +102,7 @@ fn tail_clear(sheet: &[u8], k: usize) -> bool
 
 // Whether the bytes outside the records are zero.
 fn outside_clear(sheet: &[u8]) -> bool
-    requires { ⌜ (length (now sheet) ≡ blockBytes * (blocksFor (nodeCount (now sheet)) + 1)) × (variableCount (now sheet) ≤ mostVariables) × (nodeCount (now sheet) ≤ mostNodes) ⌝ }
+    requires { ⌜ (length (now sheet) ≡ sheetBytes (nodeCount (now sheet))) × (variableCount (now sheet) ≤ mostVariables) × (nodeCount (now sheet) ≤ mostNodes) ⌝ }
     ensures { λ r. ⌜ r ≡ outsideClear (now (sheet .entry)) ⌝ }
 {
     if !clear(sheet, HEADER_GAP, HEADER_GAP_BYTES) {
