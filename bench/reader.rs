@@ -75,7 +75,7 @@ fn domain(sheet: &[u8], number: usize) -> Option<Ends> {
 
 /// Each node in turn, then the goal.
 fn goal(sheet: &[u8], nodes: usize, domains: &[Ends]) -> Result<(), Refusal> {
-    let (mut starts, mut found) = ([0; MOST_NODES], [Truth; MOST_NODES]);
+    let (mut starts, mut found) = (vec![0; nodes], vec![Truth; nodes]);
     let blocks = sheet[BLOCK..].chunks_exact(BLOCK);
     let records = blocks.flat_map(|block| block[..AFTER_NODES].chunks_exact(NODE_BYTES));
     for (number, record) in records.take(nodes).enumerate() {

@@ -1,6 +1,9 @@
 // Times two sides in one process, the library's and the ordinary one, slice by slice in turn. A slice takes 25 ms or
 // less; of each side the quickest slice counts, since the machine may be busy with other work.
 
+// No program uses all of it.
+#![allow(dead_code)]
+
 use std::fmt::{Display, Formatter, Result};
 use std::time::{Duration, Instant};
 
@@ -49,11 +52,18 @@ pub struct Sides {
     highest: f64,
 }
 
-pub const HEADS: &str = "ratio   lowest and highest of the rounds";
-
+/// The ratio, and in brackets the rounds' lowest and highest.
 impl Display for Sides {
     fn fmt(&self, to: &mut Formatter) -> Result {
-        write!(to, "{:5.2}   {:.2} to {:.2}", self.library / self.ordinary, self.lowest, self.highest)
+        write!(to, "{:.2} ({:.2} to {:.2})", self.library / self.ordinary, self.lowest, self.highest)
+    }
+}
+
+impl Sides {
+    /// The times for one of so many cases that a call tries.
+    pub fn per(self, cases: usize) -> Sides {
+        let (library, ordinary) = (self.library / cases as f64, self.ordinary / cases as f64);
+        Sides { library, ordinary, ..self }
     }
 }
 
