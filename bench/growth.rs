@@ -59,14 +59,19 @@ fn main() {
     tables::head(&heads.lines().collect::<Vec<_>>());
     for (what, compare) in SUBJECTS {
         for (shape, rule) in SHAPES {
-            tell(what, shape, NODES.map(|nodes| compare(&rule(nodes))));
+            tell(what, shape, NODES.map(|nodes| compare(&of_size(rule(nodes), nodes))));
         }
     }
 }
 
+fn of_size(rule: Tree, nodes: usize) -> Tree {
+    assert_eq!(layout::node_count(&sheet(&rule)), nodes, "a rule of so many nodes");
+    rule
+}
+
 fn tell(what: &str, shape: &str, sides: [Sides; 3]) {
     let per_node = |times: [f64; 3]| [0, 1, 2].map(|i| times[i] / NODES[i] as f64);
-    // To the time per node of the fewest nodes.
+    // Beside the time per node of the fewest nodes: about 1 where the time is linear.
     let growth = |times: [f64; 3]| {
         let [least, more, most] = per_node(times);
         [more / least, most / least]
@@ -86,7 +91,7 @@ fn tell(what: &str, shape: &str, sides: [Sides; 3]) {
     tables::row(&cells.concat());
 }
 
-/// Their number doesn't matter where no case is tried.
+/// With one case, for calls that try none.
 fn sheet(rule: &Tree) -> Vec<u8> {
     rules::sheet(rule, 1)
 }
@@ -104,7 +109,7 @@ fn ordinary_read(sheet: &[u8]) {
 
 type Writing = unsafe extern "C" fn(*const u8, usize, *mut u8, usize) -> u64;
 
-/// From a sheet's bytes to a script's bytes.
+/// From a sheet's bytes to a script's: both sides read the sheet first.
 fn written(rule: &Tree, library: Writing, models: bool) -> Sides {
     let (sheet, room) = (sheet(rule), RefCell::new([0; ENOUGH_ROOM]));
     let library = || {
@@ -124,7 +129,7 @@ fn written(rule: &Tree, library: Writing, models: bool) -> Sides {
     turns::compare(|| assert_eq!(library(), size, "written"), ordinary)
 }
 
-/// There are so many cases that reading the sheet, which the ordinary side has done before, takes next to nothing.
+/// With the step to the next case. The library reads the sheet too, which takes next to nothing beside so many cases.
 fn one_value(rule: &Tree) -> Sides {
     let (sheet, cases) = trying::fitting(rule);
     let rule = ordinary::decoded(&sheet);

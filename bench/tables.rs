@@ -7,8 +7,9 @@ pub fn head(names: &[impl AsRef<str>]) {
 }
 
 pub fn row(cells: &[impl AsRef<str>]) {
-    let cells: Vec<&str> = cells.iter().map(AsRef::as_ref).collect();
-    println!("| {} |", cells.join(" | "));
+    let spaced = |cell: &str| if cell.is_empty() { " ".to_string() } else { format!(" {} ", cell) };
+    let cells: Vec<String> = cells.iter().map(|cell| spaced(cell.as_ref())).collect();
+    println!("|{}|", cells.join("|"));
 }
 
 /// A number with so many digits behind the point, commas between its thousands.
