@@ -2,11 +2,14 @@
 
 use crate::rules;
 use crate::turns;
+use std::time::Duration;
 
 extern "C" {
     fn ragwashin_check(sheet: *const u8, sheet_len: usize, room: *mut i16, room_len: usize) -> u64;
 }
 
+/// A call takes about so long at most.
+const LONGEST: Duration = Duration::from_millis(25);
 const CASES: [usize; 12] =
     [1_000_000, 500_000, 200_000, 100_000, 50_000, 20_000, 10_000, 5_000, 2_000, 1_000, 500, FEWEST_CASES];
 const FEWEST_CASES: usize = 200;
@@ -17,11 +20,10 @@ pub fn library(sheet: &[u8]) {
     assert_eq!(said, 0, "the rule holds");
 }
 
-/// The sheet with the most cases of which a call takes about a slice at most, by the time of the fewest; and how many.
+/// The sheet with the most cases that a call may take, by the time of the fewest, and how many they are.
 pub fn fitting(rule: &rules::Tree) -> (Vec<u8>, usize) {
     let few = rules::sheet(rule, FEWEST_CASES);
-    let most =
-        turns::SLICE.as_nanos() * FEWEST_CASES as u128 / turns::quickest(&|| library(&few)).as_nanos().max(1);
-    let cases = CASES.into_iter().find(|&cases| cases as u128 <= most).unwrap_or(FEWEST_CASES);
+    let case = turns::quickest(&|| library(&few)) / FEWEST_CASES as u32;
+    let cases = CASES.into_iter().find(|&cases| case * cases as u32 <= LONGEST).unwrap_or(FEWEST_CASES);
     (rules::sheet(rule, cases), cases)
 }
