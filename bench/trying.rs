@@ -9,7 +9,7 @@ extern "C" {
 }
 
 /// A call takes about so long at most.
-const LONGEST: Duration = Duration::from_millis(25);
+const LONGEST: Duration = Duration::from_millis(10);
 const CASES: [usize; 12] =
     [1_000_000, 500_000, 200_000, 100_000, 50_000, 20_000, 10_000, 5_000, 2_000, 1_000, 500, FEWEST_CASES];
 const FEWEST_CASES: usize = 200;
