@@ -1,6 +1,9 @@
 // Plain loops over a sheet's bytes that work out the checks of its blocks, as one would write them in Rust: the lowest
 // block whose check is wrong. The compiler makes vectors of a sum in 32 bits; one in 64 bits has room to spare.
 
+// No program uses all of it.
+#![allow(dead_code)]
+
 use crate::layout::number_at;
 use crate::limits::*;
 

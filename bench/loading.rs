@@ -9,41 +9,55 @@ mod layout;
 mod limits;
 mod reader;
 mod rules;
+mod tables;
 mod turns;
 
 use layout::*;
 use limits::*;
 use std::hint::black_box;
+use turns::Sides;
 
 extern "C" {
     fn ragwashin_read(sheet: *const u8, sheet_len: usize) -> u64;
     fn ragwashin_block(sheet: *const u8, sheet_len: usize, k: u64) -> u64;
 }
 
-/// Rules of so many nodes take sheets of 1,024 and of 4,608 bytes.
-const NODES: [usize; 2] = [31, 247];
+/// Rules of so many nodes take sheets of 1,024 bytes, of 4,608, and of as many as a sheet can have.
+const NODES: [usize; 3] = [31, 247, MOST_NODES];
 
 fn main() {
-    let sheets = NODES.map(|nodes| rules::sheet(&rules::rule(nodes), 1_000));
+    let sheets = NODES.map(|nodes| rules::sheet(&rules::flat(nodes), 1_000));
     println!("loading, ns per call: {}", turns::extent());
-    println!("what          bytes         ns   beside                   ns   {}", turns::HEADS);
+    let loops = ["to a loop in 32 bits", "to a loop in 64 bits"];
+    tables::head(&["", "bytes", "ns", loops[0], loops[1], "to an ordinary reader"]);
     for sheet in &sheets {
-        compare("blocks", sheet, blocks, "a loop in 32 bits", loop_in_32_bits);
-        compare("blocks", sheet, blocks, "a loop in 64 bits", loop_in_64_bits);
-        compare("read", sheet, read, "a loop in 32 bits", loop_in_32_bits);
-        compare("read", sheet, read, "a loop in 64 bits", loop_in_64_bits);
-        compare("read", sheet, read, "an ordinary reader", ordinary_read);
-        compare("that reader", sheet, ordinary_read, "a loop in 32 bits", loop_in_32_bits);
+        let sides = [compare(sheet, blocks, loop_in_32_bits), compare(sheet, blocks, loop_in_64_bits)];
+        tell("the checks of all blocks", sheet, &sides);
     }
-    println!("of read, ns  bytes {}", STAGES.map(|stage| format!("{:>17}", stage.name)).concat());
+    for sheet in &sheets {
+        let beside_loops = [compare(sheet, read, loop_in_32_bits), compare(sheet, read, loop_in_64_bits)];
+        let [narrow, wide] = beside_loops;
+        tell("`read`", sheet, &[narrow, wide, compare(sheet, read, ordinary_read)]);
+    }
+    for sheet in &sheets {
+        tell("an ordinary reader", sheet, &[compare(sheet, ordinary_read, loop_in_32_bits)]);
+    }
+    println!("where the time of read goes, in ns");
+    tables::head(&[&["bytes"], &STAGES.map(|stage| stage.name)[..]].concat());
     sheets.iter().for_each(|sheet| tell_stages(sheet));
 }
 
 /// Each side is compiled into the loop that times it: a plain loop is quicker so.
-fn compare(what: &str, sheet: &[u8], library: impl Fn(&[u8]), beside: &str, ordinary: impl Fn(&[u8])) {
-    let sides = turns::compare(|| library(sheet), || ordinary(sheet));
-    let (bytes, ours, theirs) = (sheet.len(), sides.library, sides.ordinary);
-    println!("{:11} {:7} {:10.1}   {:18} {:8.1}   {}", what, bytes, ours, beside, theirs, sides);
+fn compare(sheet: &[u8], library: impl Fn(&[u8]), ordinary: impl Fn(&[u8])) -> Sides {
+    turns::compare(|| library(sheet), || ordinary(sheet))
+}
+
+fn tell(what: &str, sheet: &[u8], beside: &[Sides]) {
+    let quickest = beside.iter().map(|sides| sides.library).fold(f64::INFINITY, f64::min);
+    let mut cells = vec![what.to_string(), tables::count(sheet.len()), tables::figure(quickest, 0)];
+    cells.extend(beside.iter().map(Sides::to_string));
+    cells.resize(6, String::new());
+    tables::row(&cells);
 }
 
 fn said(sheet: &[u8]) -> u64 {
@@ -84,8 +98,8 @@ struct Stage {
 
 const STAGES: [Stage; 4] = [
     Stage { name: "checks", spoil: |sheet| sheet[0] = 2 },
-    Stage { name: "counts and zeros", spoil: |sheet| sheet[sheet.len() - BLOCK + CONTENT - 1] = 1 },
-    Stage { name: "variables", spoil: |sheet| sheet[variable_at(rules::VARIABLES) - 1] = 1 },
+    Stage { name: "counts and zero bytes", spoil: |sheet| sheet[sheet.len() - BLOCK + CONTENT - 1] = 1 },
+    Stage { name: "6 variables", spoil: |sheet| sheet[variable_at(rules::VARIABLES) - 1] = 1 },
     Stage { name: "nodes", spoil: |_| () },
 ];
 
@@ -100,5 +114,6 @@ fn tell_stages(sheet: &[u8]) {
         turns::compare(|| assert_eq!(said(&spoiled) >> 48, number), || ()).library
     });
     let added = (0..times.len()).map(|i| times[i] - if i == 0 { 0.0 } else { times[i - 1] });
-    println!("{:18} {}", sheet.len(), added.map(|time| format!("{:17.1}", time)).collect::<String>());
+    let cells = added.map(|time| tables::figure(time, 0));
+    tables::row(&[vec![tables::count(sheet.len())], cells.collect()].concat());
 }

@@ -67,7 +67,7 @@ fn i16_at(sheet: &[u8], at: usize) -> i32 {
     i32::from(number_at(sheet, at) as i16)
 }
 
-fn decoded(sheet: &[u8]) -> Formula {
+fn goal(sheet: &[u8]) -> Formula {
     let (mut formulas, mut terms): (Vec<Formula>, Vec<Term>) = (Vec::new(), Vec::new());
     for number in 0..node_count(sheet) {
         let at = node_at(number);
@@ -111,20 +111,31 @@ fn turned<A, B>(last: Box<A>, first: Box<A>, make: fn(Box<A>, Box<A>) -> B) -> B
     make(first, last)
 }
 
-/// The first failing case.
-pub fn check(sheet: &[u8]) -> Option<Vec<i32>> {
-    let goal = decoded(sheet);
-    let ends: Vec<(i32, i32)> = (0..usize::from(sheet[VARIABLE_COUNT]))
+/// A goal, and the ends of the variables' domains.
+pub struct Rule {
+    goal: Formula,
+    ends: Vec<(i32, i32)>,
+}
+
+pub fn decoded(sheet: &[u8]) -> Rule {
+    let ends = (0..usize::from(sheet[VARIABLE_COUNT]))
         .map(variable_at)
         .map(|at| (i16_at(sheet, at + LEAST), i16_at(sheet, at + GREATEST)))
         .collect();
-    let mut case: Vec<i32> = ends.iter().map(|end| end.0).collect();
-    loop {
-        if !goal.holds(&case) {
-            return Some(case);
+    Rule { goal: goal(sheet), ends }
+}
+
+impl Rule {
+    pub fn first_failing(&self) -> Option<Vec<i32>> {
+        let ends = &self.ends;
+        let mut case: Vec<i32> = ends.iter().map(|end| end.0).collect();
+        loop {
+            if !self.goal.holds(&case) {
+                return Some(case);
+            }
+            let moving = (0..case.len()).rev().find(|&variable| case[variable] < ends[variable].1)?;
+            case[moving] += 1;
+            (moving + 1..case.len()).for_each(|variable| case[variable] = ends[variable].0);
         }
-        let moving = (0..case.len()).rev().find(|&variable| case[variable] < ends[variable].1)?;
-        case[moving] += 1;
-        (moving + 1..case.len()).for_each(|variable| case[variable] = ends[variable].0);
     }
 }

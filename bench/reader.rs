@@ -75,7 +75,7 @@ fn domain(sheet: &[u8], number: usize) -> Option<Ends> {
 
 /// Each node in turn, then the goal.
 fn goal(sheet: &[u8], nodes: usize, domains: &[Ends]) -> Result<(), Refusal> {
-    let (mut starts, mut found) = ([0; MOST_NODES], [Truth; MOST_NODES]);
+    let (mut starts, mut found) = (vec![0; nodes], vec![Truth; nodes]);
     let blocks = sheet[BLOCK..].chunks_exact(BLOCK);
     let records = blocks.flat_map(|block| block[..AFTER_NODES].chunks_exact(NODE_BYTES));
     for (number, record) in records.take(nodes).enumerate() {
@@ -98,18 +98,19 @@ fn start(
     record: &[u8],
     number: usize,
     [a, b, c]: [usize; 3],
-    starts: &[usize],
+    starts: &[u16],
     variables: usize,
-) -> Option<usize> {
+) -> Option<u16> {
+    let (own, before) = (Some(number as u16), |node: usize| usize::from(starts[node]));
     let value = number_at(record, VALUE) != 0;
     let (start, spare) = match record[0] {
-        1 | 2 => (Some(number), a | b | c != 0 || value),
-        16 => (Some(number), a | b | c != 0),
-        17 => ((a < variables).then_some(number), b | c != 0 || value),
+        1 | 2 => (own, a | b | c != 0 || value),
+        16 => (own, a | b | c != 0),
+        17 => (own.filter(|_| a < variables), b | c != 0 || value),
         3 | 18 => ((a + 1 == number).then(|| starts[a]), b | c != 0 || value),
-        4..=10 | 19..=21 => ((b + 1 == number && a + 1 == starts[b]).then(|| starts[a]), c != 0 || value),
+        4..=10 | 19..=21 => ((b + 1 == number && a + 1 == before(b)).then(|| starts[a]), c != 0 || value),
         22 => {
-            let ordered = c + 1 == number && b + 1 == starts[c] && a + 1 == starts[b];
+            let ordered = c + 1 == number && b + 1 == before(c) && a + 1 == before(b);
             (ordered.then(|| starts[a]), value)
         }
         _ => (None, false),

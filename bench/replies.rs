@@ -6,6 +6,7 @@
 mod layout;
 #[path = "../tests/limits.rs"]
 mod limits;
+mod tables;
 
 use layout::*;
 use std::time::{Duration, Instant};
@@ -74,8 +75,9 @@ fn spoiled(length: usize) -> Vec<u8> {
 fn main() {
     let once = std::env::args().nth(1).as_deref() == Some("once");
     let lengths = if once { &LENGTHS[..1] } else { &LENGTHS[..] };
-    let heads: String = lengths.iter().map(|length| format!(" {:>12}", length)).collect();
-    println!("ns per byte of a reply of so many bytes:{}", heads);
+    println!("a reply, ns per byte");
+    let heads: Vec<String> = lengths.iter().map(|&length| tables::count(length)).collect();
+    tables::head(&[vec!["bytes"], heads.iter().map(String::as_str).collect()].concat());
     let sheet = sheet();
     for (name, make, said) in SORTS {
         let each = lengths.iter().map(|&length| {
@@ -93,8 +95,8 @@ fn main() {
 }
 
 fn tell(name: &str, each: impl Iterator<Item = f64>) {
-    let figures: String = each.map(|figure| format!(" {:12.3}", figure)).collect();
-    println!("{:<39}{}", name, figures);
+    let figures = each.map(|time| tables::figure(time, 2)).collect();
+    tables::row(&[vec![name.to_string()], figures].concat());
 }
 
 fn judged(sheet: &[u8], reply: &[u8]) -> u64 {

@@ -1,4 +1,5 @@
-// Rules that hold in every case, so that all cases are tried, as sheets of 3, 7, 31 and 247 nodes.
+// Rules that hold in every case, so that all cases are tried, as sheets; of them those that are as flat as can be, with
+// all kinds but false.
 
 use crate::layout::*;
 
@@ -13,15 +14,15 @@ pub struct Tree {
     operands: Vec<Tree>,
 }
 
-fn node(kind: u8, operands: Vec<Tree>) -> Tree {
+pub fn node(kind: u8, operands: Vec<Tree>) -> Tree {
     Tree { kind, leaf: 0, operands }
 }
 
-fn constant(value: i16) -> Tree {
+pub fn constant(value: i16) -> Tree {
     Tree { kind: 16, leaf: value, operands: Vec::new() }
 }
 
-fn variable(number: usize) -> Tree {
+pub fn variable(number: usize) -> Tree {
     Tree { kind: 17, leaf: (number % VARIABLES) as i16, operands: Vec::new() }
 }
 
@@ -42,6 +43,12 @@ fn piece(which: usize) -> Tree {
     }
 }
 
+/// A rule of 8 nodes that holds.
+fn longer_piece() -> Tree {
+    let sum = |other: Tree| node(19, vec![variable(0), other]);
+    node(3, vec![node(9, vec![sum(variable(1)), sum(constant(LOWEST))])])
+}
+
 /// All of the pieces from one number to another.
 fn all_of(from: usize, to: usize) -> Tree {
     match to - from {
@@ -50,11 +57,13 @@ fn all_of(from: usize, to: usize) -> Tree {
     }
 }
 
-/// A rule of this many nodes: 3, or one less than a multiple of 8.
-pub fn rule(nodes: usize) -> Tree {
-    match nodes {
+/// A rule of this many nodes: 3, or a multiple of 8 or one less.
+pub fn flat(nodes: usize) -> Tree {
+    let pieces = (nodes + 1) / 8;
+    match nodes % 8 {
         3 => node(10, vec![variable(0), constant(HIGHEST)]),
-        _ => all_of(0, (nodes + 1) / 8),
+        0 => node(4, vec![all_of(0, pieces - 1), longer_piece()]),
+        _ => all_of(0, pieces),
     }
 }
 

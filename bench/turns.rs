@@ -1,43 +1,34 @@
-// Times two sides in one process, the library's and the ordinary one, slice by slice in turn. A slice takes 25 ms or
-// less; of each side the quickest slice counts, since the machine may be busy with other work.
+// Times two sides in one process, the library's and the ordinary one, slice by slice in turn. Of each side the quickest
+// slice counts, since the machine may be busy with other work; slices are short, so that some of them are left alone.
+
+// No program uses all of it.
+#![allow(dead_code)]
 
 use std::fmt::{Display, Formatter, Result};
 use std::time::{Duration, Instant};
 
-pub const SLICE: Duration = Duration::from_millis(25);
-
-/// How many rounds, and how many slices in each.
-pub struct Extent {
-    rounds: usize,
-    slices: usize,
-}
-
-const WHOLE: Extent = Extent { rounds: 7, slices: 20 };
-const ONCE: Extent = Extent { rounds: 1, slices: 1 };
+/// A slice of one side takes about so long, or as long as one call.
+const SLICE: Duration = Duration::from_millis(2);
+/// A round takes about so long.
+const ROUND: Duration = Duration::from_millis(500);
+const ROUNDS: usize = 7;
+const FEWEST_SLICES: u128 = 10;
 
 /// Whether the program is asked to show that it works, and to measure nothing.
 pub fn once() -> bool {
     std::env::args().nth(1).as_deref() == Some("once")
 }
 
-pub fn extent() -> Extent {
-    if once() {
-        ONCE
-    } else {
-        WHOLE
-    }
-}
-
-impl Display for Extent {
-    fn fmt(&self, to: &mut Formatter) -> Result {
-        let (rounds, slices) = (self.rounds, self.slices);
-        write!(
-            to,
-            "slices of at most {} ms, {} rounds of {} on each side in turn",
-            SLICE.as_millis(),
-            rounds,
-            slices
-        )
+/// How long both sides are timed.
+pub fn extent() -> String {
+    match once() {
+        true => "one slice, nothing is measured".to_string(),
+        false => format!(
+            "{} rounds of {} ms, slices of {} ms on each side in turn",
+            ROUNDS,
+            ROUND.as_millis(),
+            SLICE.as_millis()
+        ),
     }
 }
 
@@ -49,11 +40,18 @@ pub struct Sides {
     highest: f64,
 }
 
-pub const HEADS: &str = "ratio   lowest and highest of the rounds";
-
+/// The ratio, and in brackets the rounds' lowest and highest.
 impl Display for Sides {
     fn fmt(&self, to: &mut Formatter) -> Result {
-        write!(to, "{:5.2}   {:.2} to {:.2}", self.library / self.ordinary, self.lowest, self.highest)
+        write!(to, "{:.2} ({:.2} to {:.2})", self.library / self.ordinary, self.lowest, self.highest)
+    }
+}
+
+impl Sides {
+    /// The times for one of so many cases that a call tries.
+    pub fn per(self, cases: usize) -> Sides {
+        let (library, ordinary) = (self.library / cases as f64, self.ordinary / cases as f64);
+        Sides { library, ordinary, ..self }
     }
 }
 
@@ -80,10 +78,17 @@ fn round(library: &impl Fn(), ordinary: &impl Fn(), calls: u32, slices: usize) -
     (each(library), each(ordinary))
 }
 
+/// How many calls make a slice, and how many slices a round, where a call of the slower side takes so many ns.
+fn parts(slower: u128) -> (u32, usize) {
+    let calls = (SLICE.as_nanos() / slower).clamp(1, 1_000_000);
+    let slices = ROUND.as_nanos() / (2 * calls * slower);
+    (calls as u32, slices.max(FEWEST_SLICES) as usize)
+}
+
 pub fn compare(library: impl Fn(), ordinary: impl Fn()) -> Sides {
-    let Extent { rounds, slices } = extent();
     let slower = quickest(&library).max(quickest(&ordinary)).as_nanos().max(1);
-    let calls = (SLICE.as_nanos() / 2 / slower).clamp(1, 1_000_000) as u32;
+    let (calls, slices) = parts(slower);
+    let (rounds, slices) = if once() { (1, 1) } else { (ROUNDS, slices) };
     let rounds: Vec<(f64, f64)> = (0..rounds).map(|_| round(&library, &ordinary, calls, slices)).collect();
     let ratios = || rounds.iter().map(|round| round.0 / round.1);
     Sides {
