@@ -2,7 +2,8 @@
 
 use crate::limits::{MOST_BLOCKS, MOST_VARIABLES};
 use crate::met::LONGEST_ASKING;
-use crate::required::{add, refusals, All, KINDS};
+use crate::required::{add, refusals, shapes, All, KINDS};
+use crate::script_required::rooms;
 
 pub fn of_ask(all: &mut All) {
     add(all, "accepted: ask by hand, ", "sheet A|no variables|every symbol");
@@ -12,8 +13,8 @@ pub fn of_ask(all: &mut All) {
     refusals(all, "ask");
     all.extend((0..=MOST_VARIABLES).map(|variables| format!("ask: written, V = {}", variables)));
     all.extend((2..=MOST_BLOCKS).map(|blocks| format!("ask: written, {} blocks", blocks)));
-    add(all, "ask: written, ", "just room|room for one byte more|room enough for all|room for more");
-    add(all, "ask: 9, ", "no room|less room|one byte short");
+    rooms(all, "ask");
+    shapes(all, "accepted: ask, ");
     all.push(LONGEST_ASKING.to_string());
 }
 
@@ -24,6 +25,7 @@ pub fn of_replies(all: &mut All) {
     rewritten(all);
     verdicts(all);
     refusals(all, "reply");
+    shapes(all, "any: reply, ");
     digits(all);
 }
 
@@ -111,6 +113,9 @@ fn verdicts(all: &mut All) {
         all.push(format!("reply: 13 at 0, V = {}", variables));
     }
     all.extend((0..MOST_VARIABLES).map(|variable| format!("reply: 12 at variable {}", variable)));
+    for verdict in ["fails", "13 at 0"] {
+        add(all, &format!("reply: {}, ", verdict), "up to 255 nodes|over 255 nodes|the most nodes");
+    }
     add(all, "reply: 11 at ", "the length|the first byte|the last byte|a byte between");
     add(all, "reply: 11, ", "no bytes|NUL|a blank|an opening parenthesis|a closing parenthesis|a semicolon");
     add(all, "reply: 11, ", "a number sign|a digit|a letter|a byte above 127|another byte");

@@ -33,8 +33,10 @@ fn of_reading(all: &mut All) {
     types(all);
     ranges(all);
     at_once(all);
+    places(all);
     bulk(all);
     edges(all);
+    shapes(all, "accepted: ");
     all.extend((2..=MOST_BLOCKS).map(|blocks| format!("read: accepted, {} blocks", blocks)));
     refusals(all, "read");
     names_and_blocks(all);
@@ -67,7 +69,10 @@ fn whole_sheet(all: &mut All) {
         "1: ",
         "no multiple of 512 over the most|every length, bytes at random|every length, checks right",
     );
-    add(all, "1: ", "blocks about number 65,521");
+    add(all, "1: ", "blocks about number 65,521|a right length and 65,536 more");
+    add(all, "", "1: one node over the most|4: one node over the most, its block cut off");
+    add(all, "", "1: a full block of nodes over the most|4: N over the most in a longest sheet");
+    add(all, "4: first byte of N right, second ", "too high|cut off");
     for k in 0..MOST_BLOCKS {
         add(
             all,
@@ -83,7 +88,8 @@ fn whole_sheet(all: &mut All) {
         all.push(format!("2: check of block {0} begun at {0}", k));
         all.push(format!("2: block {} and a later one", k - 1));
     }
-    add(all, "2: ", "each byte changed in turn|any byte changed");
+    all.extend((0..MOST_BLOCKS).map(|k| format!("2: each byte changed in turn, block {}", k)));
+    add(all, "2: ", "any byte changed");
     add(all, "3: edition ", "0|2|256|257|65535|any");
     add(all, "4: N = ", "0, one block|0, some nodes|one over the most|over the most, first byte 0|65,535");
     add(all, "4: ", "N = any over the most|V = one over the most|V = 255|V = any over the most");
@@ -201,6 +207,47 @@ fn at_once(all: &mut All) {
     add(all, "any: ", "several faults");
 }
 
+fn places(all: &mut All) {
+    let nodes =
+        "247|248|249|252|254|255|256|257|258|511|512|513|768|1023|1024|1025|1280|1536|1792|1981|1982|1983";
+    [6, 7, 8].iter().for_each(|number| add(all, &format!("{}: at node ", number), nodes));
+    let counts =
+        "248|249|250|253|255|256|257|258|259|512|513|514|769|1024|1025|1026|1281|1537|1793|1982|1983|1984";
+    add(all, "6: goal subtree not the whole table, N = ", counts);
+    add(all, "7: an integer for a goal, N = ", counts);
+    add(all, "6: goal subtree from node ", "256 on|512 on|1024 on|1792 on");
+    for (kind, operand) in operands() {
+        add(
+            all,
+            &format!("6: second byte of operand {} of kind {} ", operand, kind),
+            "cut off|one too high|one too low",
+        );
+    }
+}
+
+/// Each kind with the name of each of its operands.
+fn operands() -> Vec<(u8, &'static str)> {
+    let named = |&(kinds, _, names): &(&'static [u8], _, &'static str)| {
+        kinds.iter().flat_map(move |&kind| names.split('|').map(move |name| (kind, name)))
+    };
+    USES.iter().flat_map(named).filter(|(_, name)| !name.is_empty()).collect()
+}
+
+/// Sheets of every shape and size, as a part labels them.
+pub fn shapes(all: &mut All, label: &str) {
+    for (kind, operand) in operands() {
+        let shape = format!("{}a chain through operand {} of kind {}, ", label, operand, kind);
+        add(all, &shape, "the most nodes|other sizes");
+    }
+    for kind in [4, 5, 6, 7, 8, 9, 10, 19, 20, 21, 22] {
+        add(all, &format!("{}a balanced tree of kind {}, ", label, kind), "the most nodes|other sizes");
+    }
+    let sizes = "30|31|32|62|247|248|249|255|256|257|279|280|511|512|1024|1025|1953|1954|1983|1984";
+    add(all, &format!("{}a mixed chain, N = ", label), sizes);
+    add(all, &format!("{}a balanced tree, N = ", label), sizes);
+    all.extend((2..=MOST_BLOCKS).map(|blocks| format!("{}any shape of {} blocks", label, blocks)));
+}
+
 fn bulk(all: &mut All) {
     add(all, "any: ", "right length, bytes at random|right length, checks right");
     add(all, "any: ", "bytes at random|bytes at random, checks right|header right, then bytes at random");
@@ -210,14 +257,14 @@ fn bulk(all: &mut All) {
 }
 
 fn edges(all: &mut All) {
-    add(all, "accepted: ", "sheet A|edge 4, 4,608 bytes|edge 7|edge 9|edge 9, and -32,768|edge 11");
+    add(all, "accepted: ", "sheet A|edge 4, 33,280 bytes|edge 7|edge 9|edge 9, and -32,768|edge 11");
     add(all, "accepted: edge 11, and ", "32,755|-32,753");
     add(
         all,
         "",
         "4: worked check|2: worked check, one off|1: worked check, a byte short|1: worked check, a byte over",
     );
-    add(all, "1: edge 4, ", "empty|5,120 bytes");
+    add(all, "", "1: edge 4, empty|1: edge 4, 33,281 bytes|1: edge 4, 33,792 bytes|4: edge 4, 32,768 bytes");
     add(
         all,
         "8: ",
@@ -238,6 +285,12 @@ pub fn refusals(all: &mut All, call: &str) {
     add(all, &format!("{}: 8 at ", call), "a node between|N - 1");
     for number in [6, 7, 8] {
         all.extend((1..MOST_BLOCKS).map(|k| format!("{}: {} in block {}", call, number, k)));
+        add(
+            all,
+            &format!("{}: {} at a node ", call, number),
+            "up to 248|of 249 to 254|of 258 to 1,023|of 1,024 to 1,981",
+        );
+        add(all, &format!("{}: {} at node ", call, number), "255|256|257|511|512|1982|1983");
     }
     all.extend(KINDS.iter().map(|kind| format!("{}: 6 at kind {}", call, kind)));
     all.extend(KINDS[2..].iter().map(|kind| format!("{}: 7 at kind {}", call, kind)));

@@ -90,9 +90,10 @@ pub fn long(random: &mut Random, out: &mut Output) {
     for _ in 0..10 {
         put(random, out, "the longest", MOST_VARIABLES, longest);
     }
-    for _ in 0..400 {
+    for _ in 0..100 {
         put(random, out, "long", MOST_VARIABLES, |grower| {
-            let size = MOST_NODES - grower.random.below(40);
+            let usual = grower.random.pick(&[40, MOST_NODES - MOST_NODES / 8]);
+            let size = MOST_NODES - grower.random.below(usual);
             grower.truth(size)
         });
     }
