@@ -10,11 +10,13 @@ use crate::whole_sheet::lengthened;
 
 // ---- lengths
 
-/// Every length up to some bytes past 10 blocks, and from there to a block too many those about each block's end,
-/// with wrong checks and with right ones.
+/// Every length up to some bytes past 10 blocks, and from there to a block too many those about each block's end and one
+/// between, with wrong checks and with right ones.
 pub fn lengths(random: &mut Random, out: &mut Output) {
     let ends = (11..=MOST_BLOCKS + 1).map(|blocks| blocks * BLOCK);
-    for length in (0..=10 * BLOCK + 80).chain(ends.flat_map(|end| [end - 1, end, end + 1])) {
+    let within = 2 + random.below(BLOCK - 3);
+    let about = ends.flat_map(|end| [end - 1, end, end + 1, end + within]);
+    for length in (0..=10 * BLOCK + 80).chain(about) {
         let wrong = random.bytes(length);
         let right = lengthened(random, length);
         if length > 0 && length % BLOCK == 0 && length <= MOST_BYTES {

@@ -47,18 +47,20 @@ fn kinds_of_node(call: &str, sheet: &[u8], number: u64, node: usize) -> Vec<Stri
         _ if node == last => "N - 1",
         _ => "a node between",
     };
-    let number_told = match node {
+    let which = match node {
         0..=248 => "a node up to 248".to_string(),
         249..=254 => "a node of 249 to 254".to_string(),
-        255 | 256 | 257 | 511 | 512 | 1_982 | 1_983 => format!("node {}", node),
+        255 | 256 | 257 | 511 | 512 => format!("node {}", node),
+        _ if node + 1 == MOST_NODES => "the last of the most nodes".to_string(),
+        _ if node + 2 == MOST_NODES => "the last but one of the most nodes".to_string(),
         _ if node < 1_024 => "a node of 258 to 1,023".to_string(),
-        _ => "a node of 1,024 to 1,981".to_string(),
+        _ => "a node from 1,024 on".to_string(),
     };
     let kind = sheet[node_at(node)];
     let kind = if KINDS.contains(&kind) { format!("kind {}", kind) } else { "no kind".to_string() };
     vec![
         format!("{}: {} at {}", call, number, place),
-        format!("{}: {} at {}", call, number, number_told),
+        format!("{}: {} at {}", call, number, which),
         format!("{}: {} in block {}", call, number, 1 + node / NODES_IN_BLOCK),
         format!("{}: {} at {}", call, number, kind),
     ]

@@ -208,20 +208,17 @@ fn at_once(all: &mut All) {
 }
 
 fn places(all: &mut All) {
-    let nodes =
-        "247|248|249|252|254|255|256|257|258|511|512|513|768|1023|1024|1025|1280|1536|1792|1981|1982|1983";
-    [6, 7, 8].iter().for_each(|number| add(all, &format!("{}: at node ", number), nodes));
-    let counts =
-        "248|249|250|253|255|256|257|258|259|512|513|514|769|1024|1025|1026|1281|1537|1793|1982|1983|1984";
-    add(all, "6: goal subtree not the whole table, N = ", counts);
-    add(all, "7: an integer for a goal, N = ", counts);
+    let low = [247, 248, 249, 252, 254, 255, 256, 257, 258, 511, 512, 513, 768, 1_023, 1_024, 1_025];
+    let high = [1_280, 1_536, 1_792, MOST_NODES - 3, MOST_NODES - 2, MOST_NODES - 1];
+    for node in low.into_iter().chain(high) {
+        all.extend([6, 7, 8].map(|number| format!("{}: at node {}", number, node)));
+        all.push(format!("6: goal subtree not the whole table, N = {}", node + 1));
+        all.push(format!("7: an integer for a goal, N = {}", node + 1));
+    }
     add(all, "6: goal subtree from node ", "256 on|512 on|1024 on|1792 on");
     for (kind, operand) in operands() {
-        add(
-            all,
-            &format!("6: second byte of operand {} of kind {} ", operand, kind),
-            "cut off|one too high|one too low",
-        );
+        let wrong = "cut off|one too high|one too low";
+        add(all, &format!("6: second byte of operand {} of kind {} ", operand, kind), wrong);
     }
 }
 
@@ -242,9 +239,12 @@ pub fn shapes(all: &mut All, label: &str) {
     for kind in [4, 5, 6, 7, 8, 9, 10, 19, 20, 21, 22] {
         add(all, &format!("{}a balanced tree of kind {}, ", label, kind), "the most nodes|other sizes");
     }
-    let sizes = "30|31|32|62|247|248|249|255|256|257|279|280|511|512|1024|1025|1953|1954|1983|1984";
-    add(all, &format!("{}a mixed chain, N = ", label), sizes);
-    add(all, &format!("{}a balanced tree, N = ", label), sizes);
+    let low = [30, 31, 32, 62, 247, 248, 249, 255, 256, 257, 279, 280, 511, 512, 1_024, 1_025];
+    let high = [31, 30, 1, 0].map(|fewer| MOST_NODES - fewer);
+    for size in low.into_iter().chain(high) {
+        all.push(format!("{}a mixed chain, N = {}", label, size));
+        all.push(format!("{}a balanced tree, N = {}", label, size));
+    }
     all.extend((2..=MOST_BLOCKS).map(|blocks| format!("{}any shape of {} blocks", label, blocks)));
 }
 
@@ -285,12 +285,14 @@ pub fn refusals(all: &mut All, call: &str) {
     add(all, &format!("{}: 8 at ", call), "a node between|N - 1");
     for number in [6, 7, 8] {
         all.extend((1..MOST_BLOCKS).map(|k| format!("{}: {} in block {}", call, number, k)));
+        let nodes = "up to 248|of 249 to 254|of 258 to 1,023|from 1,024 on";
+        add(all, &format!("{}: {} at a node ", call, number), nodes);
+        add(all, &format!("{}: {} at node ", call, number), "255|256|257|511|512");
         add(
             all,
-            &format!("{}: {} at a node ", call, number),
-            "up to 248|of 249 to 254|of 258 to 1,023|of 1,024 to 1,981",
+            &format!("{}: {} at the last ", call, number),
+            "of the most nodes|but one of the most nodes",
         );
-        add(all, &format!("{}: {} at node ", call, number), "255|256|257|511|512|1982|1983");
     }
     all.extend(KINDS.iter().map(|kind| format!("{}: 6 at kind {}", call, kind)));
     all.extend(KINDS[2..].iter().map(|kind| format!("{}: 7 at kind {}", call, kind)));

@@ -30,8 +30,8 @@ const SIZES: [usize; 20] = [
     512,
     1_024,
     1_025,
-    1_953,
-    1_954,
+    MOST_NODES - NODES_IN_BLOCK,
+    MOST_NODES - NODES_IN_BLOCK + 1,
     MOST_NODES - 1,
     MOST_NODES,
 ];

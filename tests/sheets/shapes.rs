@@ -1,5 +1,5 @@
-// Trees of every shape, of exactly so many nodes: chains through each operand of each kind (of two operands a comb to
-// the left or to the right), chains of all these mixed, and trees that are as broad at each operand.
+// Trees of every shape, of exactly so many nodes: chains through each operand of each kind (of two operands that is a
+// comb to the left or to the right), chains of all these mixed, and balanced trees.
 
 use crate::grower::Grower;
 use crate::trees::*;
@@ -16,13 +16,13 @@ pub fn links() -> Vec<Link> {
 }
 
 /// Domains so near zero that no sum of a sheet's leaves leaves 16 bits, and no product grows.
-pub const DOMAINS: [Range; 5] = [(0, 1), (-1, 0), (-1, 1), (1, 1), (-1, -1)];
+pub const DOMAINS: [Range; 4] = [(0, 1), (-1, 0), (-1, 1), (1, 1)];
 
 /// A truth value of exactly so many nodes: links that are picked from these, one over the other, and above them as many
 /// truth values as are missing.
 pub fn chain(grower: &mut Grower, links: &[Link], nodes: usize) -> Tree {
-    let sort = operand_sorts(links[0].0)[links[0].1];
-    let (mut tree, mut size) = (leaf(grower, sort), 1);
+    let mut tree = bottom(grower, operand_sorts(links[0].0)[links[0].1]);
+    let mut size = tree.size();
     loop {
         let link = grower.random.pick(links);
         let mut next = between(tree.sort(), operand_sorts(link.0)[link.1]);
@@ -37,6 +37,21 @@ pub fn chain(grower: &mut Grower, links: &[Link], nodes: usize) -> Tree {
     size += added(&last);
     let tree = last.into_iter().fold(tree, |tree, link| over(grower, link, tree));
     (size..nodes).fold(tree, |tree, _| node(3, vec![tree]))
+}
+
+/// A leaf, but for a truth value whether a variable has its least value, so that the chain's can depend on the case.
+fn bottom(grower: &mut Grower, sort: Sort) -> Tree {
+    if sort == Integer || grower.variables.is_empty() {
+        return leaf(grower, sort);
+    }
+    let x = some_variable(grower);
+    let least = constant(x.range.0);
+    node(10, vec![x, least])
+}
+
+fn some_variable(grower: &mut Grower) -> Tree {
+    let number = grower.random.below(grower.variables.len());
+    variable(number, grower.variables[number].domain)
 }
 
 /// What a tree of one sort goes into first, to be an operand of another: a comparison or a choice.
@@ -67,14 +82,12 @@ fn leaf(grower: &mut Grower, sort: Sort) -> Tree {
         Integer if grower.variables.is_empty() || grower.random.one_in(3) => {
             constant(grower.random.between(-1, 1))
         }
-        Integer => {
-            let number = grower.random.below(grower.variables.len());
-            variable(number, grower.variables[number].domain)
-        }
+        Integer => some_variable(grower),
     }
 }
 
-/// A truth value of exactly so many nodes whose operands share what is under a node, with this kind wherever it fits.
+/// A truth value of exactly so many nodes: the operands of each node share what is under it. This kind stands wherever
+/// its sort is wanted and there are nodes enough.
 pub fn balanced(grower: &mut Grower, kind: u8, nodes: usize) -> Tree {
     shared_out(grower, kind, Truth, nodes)
 }
