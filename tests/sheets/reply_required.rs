@@ -8,7 +8,7 @@ use crate::script_required::rooms;
 pub fn of_ask(all: &mut All) {
     add(all, "accepted: ask by hand, ", "sheet A|no variables|every symbol");
     all.extend(KINDS.iter().map(|kind| format!("accepted: ask, a node of kind {}", kind)));
-    add(all, "accepted: ask, ", "any|long|the longest|too many cases to check");
+    add(all, "accepted: ask, ", "any|long|long, of constants|the longest|too many cases to check");
     add(all, "accepted: ask for solvers, ", "any|holds|about zero|a variable not read");
     refusals(all, "ask");
     all.extend((0..=MOST_VARIABLES).map(|variables| format!("ask: written, V = {}", variables)));

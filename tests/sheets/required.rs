@@ -28,6 +28,7 @@ pub fn of(parts: &[Part]) -> BTreeSet<String> {
 fn of_reading(all: &mut All) {
     accepted(all);
     whole_sheet(all);
+    layout(all);
     variables(all);
     nodes(all);
     types(all);
@@ -70,9 +71,7 @@ fn whole_sheet(all: &mut All) {
         "no multiple of 512 over the most|every length, bytes at random|every length, checks right",
     );
     add(all, "1: ", "blocks about number 65,521|a right length and 65,536 more");
-    add(all, "", "1: one node over the most|4: one node over the most, its block cut off");
-    add(all, "", "1: a full block of nodes over the most|4: N over the most in a longest sheet");
-    add(all, "4: first byte of N right, second ", "too high|cut off");
+    add(all, "1: ", "one node over the most|a full block of nodes over the most");
     for k in 0..MOST_BLOCKS {
         add(
             all,
@@ -91,8 +90,14 @@ fn whole_sheet(all: &mut All) {
     all.extend((0..MOST_BLOCKS).map(|k| format!("2: each byte changed in turn, block {}", k)));
     add(all, "2: ", "any byte changed");
     add(all, "3: edition ", "0|2|256|257|65535|any");
+    all.extend((1..=8).map(|number| format!("{}: every name asked", number)));
+}
+
+fn layout(all: &mut All) {
     add(all, "4: N = ", "0, one block|0, some nodes|one over the most|over the most, first byte 0|65,535");
     add(all, "4: ", "N = any over the most|V = one over the most|V = 255|V = any over the most");
+    add(all, "4: ", "N over the most in a longest sheet|one node over the most, its block cut off");
+    add(all, "4: first byte of N right, second ", "too high|cut off");
     add(all, "4: ", "second byte of N|one block too short|one block too long|length any other");
     add(all, "4: ", "a full last block, N one more|one node in the last block, N one less");
     add(all, "4: ", "byte 5|byte 6|byte 7");
@@ -101,7 +106,6 @@ fn whole_sheet(all: &mut All) {
     for zone in zones.iter().map(|zone| zone.to_string()).chain(node_tails) {
         add(all, &format!("4: {}, ", zone), "first byte|last byte|any byte");
     }
-    all.extend((1..=8).map(|number| format!("{}: every name asked", number)));
 }
 
 fn variables(all: &mut All) {

@@ -8,7 +8,11 @@ pub fn of_script(all: &mut All) {
     add(all, "accepted: edge ", "5, constant -1|6, constant -32,768|12, its script|13, sheet A");
     all.extend(KINDS.iter().map(|kind| format!("accepted: text of kind {}", kind)));
     all.extend(KINDS.iter().map(|kind| format!("accepted: script, a node of kind {}", kind)));
-    add(all, "accepted: script, ", "a variable never read|every symbol|any|a number|long|the longest");
+    add(
+        all,
+        "accepted: script, ",
+        "a variable never read|every symbol|any|a number|long|long, of constants|the longest",
+    );
     add(all, "accepted: script, ", "too many cases to check");
     add(all, "accepted: script for solvers, ", "any|holds|about zero|a variable not read");
     refusals(all, "script");

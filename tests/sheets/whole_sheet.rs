@@ -190,6 +190,7 @@ fn edition_spoilt(random: &mut Random, out: &mut Output, label: &str, edition: u
 pub fn refusal_4(random: &mut Random, out: &mut Output) {
     for _ in 0..25 {
         counts_spoilt(random, out);
+        second_byte_spoilt(random, out);
         length_spoilt(random, out);
         header_zeros_spoilt(random, out);
         node_slots_spoilt(random, out);
@@ -224,19 +225,6 @@ fn counts_spoilt(random: &mut Random, out: &mut Output) {
         put(&mut sheet, NODE_COUNT, count as u16);
         put_4(random, out, &format!("4: N = {}", label), sheet);
     }
-    // The length is then that of many nodes fewer or more.
-    let mut sheet = any_accepted(random);
-    sheet[NODE_COUNT + 1] = random.other_byte(sheet[NODE_COUNT + 1]);
-    put_4(random, out, "4: second byte of N", sheet);
-    // Whoever takes its first byte alone finds all that it counts.
-    let nodes = 1 + random.below(255);
-    let mut sheet = accepted(random, nodes, 3);
-    sheet[NODE_COUNT + 1] = random.nonzero();
-    put_4(random, out, "4: first byte of N right, second too high", sheet);
-    let nodes = 256 + random.below(MOST_NODES - 255);
-    let mut sheet = accepted(random, nodes, 3);
-    sheet[NODE_COUNT + 1] = 0;
-    put_4(random, out, "4: first byte of N right, second cut off", sheet);
 
     let over = MOST_VARIABLES + 1;
     let any = over + random.below(256 - over);
@@ -246,6 +234,22 @@ fn counts_spoilt(random: &mut Random, out: &mut Output) {
         sheet[VARIABLE_COUNT] = count as u8;
         put_4(random, out, &format!("4: V = {}", label), sheet);
     }
+}
+
+/// The length is then that of many nodes fewer or more.
+fn second_byte_spoilt(random: &mut Random, out: &mut Output) {
+    let mut sheet = any_accepted(random);
+    sheet[NODE_COUNT + 1] = random.other_byte(sheet[NODE_COUNT + 1]);
+    put_4(random, out, "4: second byte of N", sheet);
+    // Whoever takes the first byte alone finds just the nodes that are there.
+    let nodes = 1 + random.below(255);
+    let mut sheet = accepted(random, nodes, 3);
+    sheet[NODE_COUNT + 1] = random.nonzero();
+    put_4(random, out, "4: first byte of N right, second too high", sheet);
+    let nodes = 256 + random.below(MOST_NODES - 255);
+    let mut sheet = accepted(random, nodes, 3);
+    sheet[NODE_COUNT + 1] = 0;
+    put_4(random, out, "4: first byte of N right, second cut off", sheet);
 }
 
 /// Too many nodes for any sheet, in a longest one: the next few, those with the most's first byte, those at the edge of
