@@ -1,11 +1,12 @@
 // What a run over check and tally must have met, a list of its own as `required` is.
 
 use crate::limits::MOST_VARIABLES;
-use crate::required::{add, refusals, shapes, All, KINDS};
+use crate::required::{add, deep, refusals, shapes, All, KINDS};
 
 pub fn of_cases(all: &mut All) {
     labels(all);
     shapes(all, "accepted: cases, ");
+    deep(all, "accepted: cases, ");
     checks(all);
     tallies(all);
 }

@@ -2,7 +2,7 @@
 
 use crate::limits::{MOST_BLOCKS, MOST_VARIABLES};
 use crate::met::LONGEST_ASKING;
-use crate::required::{add, refusals, shapes, All, KINDS};
+use crate::required::{add, deep, refusals, shapes, All, KINDS};
 use crate::script_required::rooms;
 
 pub fn of_ask(all: &mut All) {
@@ -26,6 +26,8 @@ pub fn of_replies(all: &mut All) {
     verdicts(all);
     refusals(all, "reply");
     shapes(all, "any: reply, ");
+    deep(all, "accepted: reply, ");
+    deep(all, "13: reply, ");
     digits(all);
 }
 

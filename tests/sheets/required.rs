@@ -234,6 +234,13 @@ fn operands() -> Vec<(u8, &'static str)> {
     USES.iter().flat_map(named).filter(|(_, name)| !name.is_empty()).collect()
 }
 
+/// Rules of which the deepest nodes alone decide, as a part labels them.
+pub fn deep(all: &mut All, label: &str) {
+    for size in [255, 256, 257, 512, 1_024, MOST_NODES - 1, MOST_NODES] {
+        all.push(format!("{}a deep rule, N = {}", label, size));
+    }
+}
+
 /// Sheets of every shape and size, as a part labels them.
 pub fn shapes(all: &mut All, label: &str) {
     for (kind, operand) in operands() {

@@ -1,7 +1,9 @@
 // Trees of every shape, of exactly so many nodes: chains through each operand of each kind (of two operands that is a
-// comb to the left or to the right), chains of all these mixed, and balanced trees.
+// comb to the left or to the right), chains of all these mixed, balanced trees, and deep ones around another tree.
 
 use crate::grower::Grower;
+use crate::limits::MOST_NODES;
+use crate::random::Random;
 use crate::trees::*;
 
 /// A kind, and the operand through which a chain goes.
@@ -85,6 +87,32 @@ fn leaf(grower: &mut Grower, sort: Sort) -> Tree {
         Integer => some_variable(grower),
     }
 }
+
+/// This truth value under nodes that leave its value as it is, exactly so many in all; and whether it is the opposite,
+/// which has the one node more that an odd number takes.
+pub fn deep(random: &mut Random, tree: Tree, nodes: usize) -> (Tree, bool) {
+    let opposite = (nodes - tree.size()) % 2 == 1;
+    let tree = if opposite { node(3, vec![tree]) } else { tree };
+    ((0..(nodes - tree.size()) / 2).fold(tree, |tree, _| unchanged(random, tree)), opposite)
+}
+
+/// Under two nodes more.
+fn unchanged(random: &mut Random, tree: Tree) -> Tree {
+    let [holds, fails] = [1, 2].map(|kind| node(kind, Vec::new()));
+    match random.below(8) {
+        0 => node(3, vec![node(3, vec![tree])]),
+        1 => node(4, vec![tree, holds]),
+        2 => node(4, vec![holds, tree]),
+        3 => node(5, vec![tree, fails]),
+        4 => node(5, vec![fails, tree]),
+        5 => node(6, vec![holds, tree]),
+        6 => node(7, vec![tree, holds]),
+        _ => node(7, vec![holds, tree]),
+    }
+}
+
+/// Sizes of deep rules: the edges of a byte, and the most nodes.
+pub const DEEP: [usize; 7] = [255, 256, 257, 512, 1_024, MOST_NODES - 1, MOST_NODES];
 
 /// A truth value of exactly so many nodes: the operands of each node share what is under it. This kind stands wherever
 /// its sort is wanted and there are nodes enough.
