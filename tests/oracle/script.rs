@@ -42,13 +42,26 @@ fn literal(value: i64) -> String {
 }
 
 fn term(tree: &Tree) -> String {
-    let operands: Vec<String> = tree.operands.iter().map(term).collect();
+    let mut text = String::new();
+    add_term(tree, &mut text);
+    text
+}
+
+/// Adds to one text, so that a deep tree takes no longer than a broad one.
+fn add_term(tree: &Tree, text: &mut String) {
     match tree.kind {
-        1 => "true".to_string(),
-        2 => "false".to_string(),
-        16 => literal(tree.leaf),
-        17 => symbol(tree.leaf as usize),
-        kind => format!("({} {})", operator(kind), operands.join(" ")),
+        1 => text.push_str("true"),
+        2 => text.push_str("false"),
+        16 => text.push_str(&literal(tree.leaf)),
+        17 => text.push_str(&symbol(tree.leaf as usize)),
+        kind => {
+            text.push_str(&format!("({}", operator(kind)));
+            for operand in &tree.operands {
+                text.push(' ');
+                add_term(operand, text);
+            }
+            text.push(')');
+        }
     }
 }
 

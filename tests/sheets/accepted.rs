@@ -7,8 +7,10 @@ use crate::trees::*;
 use crate::trial::{Accepted, Output};
 
 pub fn make(random: &mut Random, out: &mut Output) {
-    for _ in 0..10 {
+    for _ in 0..2 {
         counts(random, out);
+    }
+    for _ in 0..10 {
         kinds(random, out);
         names(random, out);
         numbers(random, out);

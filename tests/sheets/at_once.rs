@@ -21,7 +21,7 @@ pub fn make(random: &mut Random, out: &mut Output) {
         at_one_node(random, out);
         beside_the_goal(random, out);
     }
-    for _ in 0..10 {
+    for _ in 0..2 {
         in_each_block(random, out);
     }
     for _ in 0..2_500 {
@@ -85,7 +85,7 @@ fn goal_with_faults(grower: &mut Grower, faults: &[u64]) -> Tree {
 }
 
 /// A small tree with this fault at its last node (6 is made in the table).
-fn faulty(grower: &mut Grower, fault: u64) -> Tree {
+pub fn faulty(grower: &mut Grower, fault: u64) -> Tree {
     match fault {
         7 => {
             let kind =
@@ -110,7 +110,7 @@ fn leaving(grower: &mut Grower) -> Tree {
     }
 }
 
-fn spoil_record(random: &mut Random, record: &mut NodeRecord) {
+pub fn spoil_record(random: &mut Random, record: &mut NodeRecord) {
     match random.below(3) {
         0 => record[0] = random.pick(&[0, 11, 15, 23, 255]),
         1 => record[1] = random.nonzero(),

@@ -1,20 +1,22 @@
 // Sheets in bulk: every length, every byte changed, and bytes and node tables at random.
 
-use crate::grower::{any_accepted, any_size, Grower};
+use crate::grower::{accepted, any_accepted, any_size, Grower};
 use crate::layout::*;
 use crate::limits::*;
 use crate::random::Random;
 use crate::trees::*;
 use crate::trial::{Open, Output, Refused};
-use crate::whole_sheet::{accepted_with_block, lengthened};
+use crate::whole_sheet::lengthened;
 
 // ---- lengths
 
-/// Every length up to some bytes past 10 blocks, and from there to a block too many those about each block's end,
-/// with wrong checks and with right ones.
+/// Every length up to some bytes past 10 blocks, and from there to a block too many those about each block's end and one
+/// between, with wrong checks and with right ones.
 pub fn lengths(random: &mut Random, out: &mut Output) {
     let ends = (11..=MOST_BLOCKS + 1).map(|blocks| blocks * BLOCK);
-    for length in (0..=10 * BLOCK + 80).chain(ends.flat_map(|end| [end - 1, end, end + 1])) {
+    let within = 2 + random.below(BLOCK - 3);
+    let about = ends.flat_map(|end| [end - 1, end, end + 1, end + within]);
+    for length in (0..=10 * BLOCK + 80).chain(about) {
         let wrong = random.bytes(length);
         let right = lengthened(random, length);
         if length > 0 && length % BLOCK == 0 && length <= MOST_BYTES {
@@ -29,12 +31,14 @@ pub fn lengths(random: &mut Random, out: &mut Output) {
 
 // ---- one byte changed
 
-/// One changed byte of an accepted sheet gives refusal 2 at its block: each byte of the first nine blocks of a
-/// largest sheet in turn, then any byte of any sheet.
+/// One changed byte of an accepted sheet gives refusal 2 at its block: in a longest sheet each byte that a block has,
+/// in nine blocks, so that all blocks have their turn; then any byte of any sheet.
 pub fn changed_bytes(random: &mut Random, out: &mut Output) {
-    let largest = accepted_with_block(random, MOST_BLOCKS - 1);
-    for place in 0..9 * BLOCK {
-        changed(random, out, "2: each byte changed in turn", largest.clone(), place);
+    let longest = accepted(random, MOST_NODES, MOST_VARIABLES);
+    for turn in 0..9 * BLOCK {
+        let block = turn % MOST_BLOCKS;
+        let label = format!("2: each byte changed in turn, block {}", block);
+        changed(random, out, &label, longest.clone(), BLOCK * block + turn % BLOCK);
     }
     for _ in 0..6_000 {
         let sheet = any_accepted(random);

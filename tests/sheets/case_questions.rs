@@ -70,7 +70,7 @@ pub fn any(random: &mut Random, sheet: &[u8], expected: Expected) -> Vec<Asked> 
     let variables = usize::from(sheet.get(VARIABLE_COUNT).copied().unwrap_or(0)).min(MOST_VARIABLES);
     let lengths = room_lengths(random, variables);
     let mut questions = vec![(Question::Read, reading(expected).map(Known::said))];
-    if known.is_some() || affordable(sheet, variables) {
+    if known.is_some() || affordable(sheet, 20_000.0) {
         let (one, other) = (random.pick(&lengths), random.pick(&lengths));
         questions.push((Question::Check(room(random, one)), known.clone()));
         questions.push((Question::Check(room(random, other)), known.clone()));
@@ -79,14 +79,16 @@ pub fn any(random: &mut Random, sheet: &[u8], expected: Expected) -> Vec<Asked> 
     questions
 }
 
-/// Whether to go through all cases takes little time, or nothing since they are too many.
-fn affordable(sheet: &[u8], variables: usize) -> bool {
+/// Whether to go through all cases takes fewer steps than these, a node's value in one case being one, or none since the
+/// cases are too many.
+pub fn affordable(sheet: &[u8], steps: f64) -> bool {
     if sheet.len() < BLOCK {
         return true;
     }
     let number = |at: usize| i64::from(number_at(sheet, at) as i16);
     let size = |at: usize| (number(at + GREATEST) - number(at + LEAST) + 1).max(1) as f64;
+    let variables = usize::from(sheet[VARIABLE_COUNT]).min(MOST_VARIABLES);
     let cases: f64 = (0..variables).map(|variable| size(variable_at(variable))).product();
     let nodes = node_count(sheet).min(MOST_NODES) as f64;
-    cases > MOST_CASES as f64 || cases * nodes < 20_000.0
+    cases > MOST_CASES as f64 || cases * nodes < steps
 }

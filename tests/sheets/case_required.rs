@@ -1,10 +1,12 @@
 // What a run over check and tally must have met, a list of its own as `required` is.
 
 use crate::limits::MOST_VARIABLES;
-use crate::required::{add, refusals, All, KINDS};
+use crate::required::{add, deep, refusals, shapes, All, KINDS};
 
 pub fn of_cases(all: &mut All) {
     labels(all);
+    shapes(all, "accepted: cases, ");
+    deep(all, "accepted: cases, ");
     checks(all);
     tallies(all);
 }
@@ -37,6 +39,7 @@ fn checks(all: &mut All) {
     for verdict in ["holds", "fails"] {
         all.extend((0..=MOST_VARIABLES).map(|variables| format!("check: {}, V = {}", verdict, variables)));
         add(all, &format!("check: {}, ", verdict), "room for V|room for V + 1|room for more");
+        add(all, &format!("check: {}, ", verdict), "up to 255 nodes|over 255 nodes|the most nodes");
     }
     add(all, "check: fails in ", "the only case|the first case|the last case|a case between");
     all.extend((1..=MOST_VARIABLES).map(|variables| format!("check: 9 at {}", variables)));
@@ -51,5 +54,8 @@ fn checks(all: &mut All) {
 fn tallies(all: &mut All) {
     refusals(all, "tally");
     add(all, "tally: ", "all held|all failed|some held, some failed|10 at 0");
+    for counts in ["all held", "all failed", "some held, some failed"] {
+        add(all, &format!("tally: {}, ", counts), "up to 255 nodes|over 255 nodes|the most nodes");
+    }
     add(all, "tally: ", "one case|some cases|the most cases");
 }

@@ -90,41 +90,45 @@ fn worked_check(edge: Edge) {
     );
 }
 
-/// 218 nodes: true, then not, 217 times.
+/// Of the sheet with 1,984 nodes: true, then not, 1,983 times.
+const CHECKS_OF_EDGE_4: [u16; 65] = [
+    0x025e, 0x8ea4, 0x1f13, 0xaf74, 0x3fe4, 0xd045, 0x60b5, 0xf116, 0x8186, 0x1989, 0x5130, 0xe191, 0x7201,
+    0x0271, 0x92d2, 0x2342, 0xb3a3, 0x9da0, 0x834d, 0x13bd, 0xa41e, 0x348e, 0xc4ef, 0x555f, 0xe5c0, 0x1e02,
+    0xb56a, 0x45da, 0xd63b, 0x66ab, 0xf70c, 0x877c, 0x17ec, 0xa84d, 0xfd6f, 0x77f7, 0x0867, 0x98c8, 0x2938,
+    0xb999, 0x4a09, 0xda6a, 0x04e8, 0xaa14, 0x3a84, 0xcae5, 0x5b55, 0xebb6, 0x7c26, 0x0c96, 0x088e, 0xdc31,
+    0x6ca1, 0xfd02, 0x8d72, 0x1de2, 0xae43, 0x3eb3, 0x0870, 0x0e5d, 0x9ebe, 0x2f2e, 0xbf8f, 0x4fff, 0xe060,
+];
+
+/// 33,280 bytes: 1,984 nodes (C0 07) in 65 blocks.
 fn edge_4(edge: Edge) {
     edge("1: edge 4, empty", &[], &[(Read, refused(1, 0)), (Name(0), 0), (Block(0), 0)]);
-    let mut full = sheet(
-        4_608,
-        &[
-            (0, &[1, 0, 218, 0, 0]),
-            (510, &[0x90, 0x02]),
-            (512, &[1]),
-            (1_022, &[0xa4, 0x8e]),
-            (1_534, &[0x13, 0x1f]),
-            (2_046, &[0x74, 0xaf]),
-            (2_558, &[0xe4, 0x3f]),
-            (3_070, &[0x45, 0xd0]),
-            (3_582, &[0xb5, 0x60]),
-            (4_094, &[0x16, 0xf1]),
-            (4_606, &[0x94, 0x02]),
-        ],
-    );
-    for node in 1..218 {
+    let mut full = sheet(33_280, &[(0, &[1, 0, 0xc0, 0x07, 0]), (512, &[1])]);
+    for node in 1..1_984 {
         let record = 512 + 512 * (node / 31) + 16 * (node % 31);
         full[record] = 3;
-        full[record + 2] = node as u8 - 1;
+        full[record + 2..record + 4].copy_from_slice(&(node as u16 - 1).to_le_bytes());
+    }
+    for (k, check) in CHECKS_OF_EDGE_4.iter().enumerate() {
+        full[512 * k + 510..512 * k + 512].copy_from_slice(&check.to_le_bytes());
     }
     edge(
-        "accepted: edge 4, 4,608 bytes",
+        "accepted: edge 4, 33,280 bytes",
         &full,
-        &[(Read, ACCEPTED), (Name(0), 0), (Block(8), 510), (Block(9), 0)],
+        &[(Read, ACCEPTED), (Name(0), 0), (Block(8), 510), (Block(9), 510), (Block(64), 510), (Block(65), 0)],
     );
-    full.resize(5_120, 0);
-    full[5_118] = 10;
     edge(
-        "1: edge 4, 5,120 bytes",
+        "4: edge 4, 32,768 bytes",
+        &full[..32_768],
+        &[(Read, refused(4, 0)), (Name(0), 0), (Block(63), 510), (Block(64), 0)],
+    );
+    full.push(0);
+    edge("1: edge 4, 33,281 bytes", &full, &[(Read, refused(1, 0)), (Block(64), 510), (Block(65), 0)]);
+    full.resize(33_792, 0);
+    full[33_790] = 66;
+    edge(
+        "1: edge 4, 33,792 bytes",
         &full,
-        &[(Read, refused(1, 0)), (Block(8), 510), (Block(9), 510), (Block(10), 0)],
+        &[(Read, refused(1, 0)), (Block(64), 510), (Block(65), 510), (Block(66), 0)],
     );
 }
 

@@ -6,6 +6,7 @@ use crate::few_cases::{domain, domains};
 use crate::grower::Grower;
 use crate::limits::MOST_VARIABLES;
 use crate::random::Random;
+use crate::shapes::{deep, DEEP};
 use crate::trees::*;
 use crate::trial::Output;
 
@@ -19,6 +20,11 @@ pub fn make(random: &mut Random, out: &mut Output) {
                 one_variable(random, out, variables, which);
             }
             everywhere_or_nowhere(random, out, variables);
+        }
+    }
+    for _ in 0..4 {
+        for nodes in DEEP {
+            deep_rule(random, out, nodes);
         }
     }
 }
@@ -59,21 +65,38 @@ fn put(random: &mut Random, out: &mut Output, label: &str, domains: &[Range], go
 fn one_case(random: &mut Random, out: &mut Output, variables: usize, which: &str) {
     let most = random.pick(&[1, 6, 60, 600]);
     let domains = domains(random, variables, most);
-    let count = cases(&domains);
     let case = match which {
         "the first case" => first(&domains),
         "the last case" => last(&domains),
         _ => domains.iter().map(|domain| random.between(domain.0, domain.1)).collect(),
     };
     let there = at(random, &domains, &case);
-
-    let outcome = Outcome { first_failure: Some(case.clone()), held: count - 1, failed: 1 };
     let fails_there = node(3, vec![there.clone()]);
+    let outcome = fails_alone(&domains, &case);
     put(random, out, &format!("fails in {} alone", which), &domains, &fails_there, outcome);
-
-    let failure = if case == first(&domains) { second(&domains) } else { Some(first(&domains)) };
-    let outcome = Outcome { first_failure: failure, held: 1, failed: count - 1 };
+    let outcome = holds_alone(&domains, &case);
     put(random, out, &format!("holds in {} alone", which), &domains, &there, outcome);
+}
+
+/// The outcome of a rule that fails in this case and in no other.
+fn fails_alone(domains: &[Range], case: &[i64]) -> Outcome {
+    Outcome { first_failure: Some(case.to_vec()), held: cases(domains) - 1, failed: 1 }
+}
+
+fn holds_alone(domains: &[Range], case: &[i64]) -> Outcome {
+    let failure = if case == first(domains) { second(domains) } else { Some(first(domains)) };
+    Outcome { first_failure: failure, held: 1, failed: cases(domains) - 1 }
+}
+
+/// A rule of exactly so many nodes of which the deepest alone decide.
+fn deep_rule(random: &mut Random, out: &mut Output, nodes: usize) {
+    let variables = 1 + random.below(4);
+    let domains = domains(random, variables, 12);
+    let case: Vec<i64> = domains.iter().map(|domain| random.between(domain.0, domain.1)).collect();
+    let there = at(random, &domains, &case);
+    let (goal, opposite) = deep(random, there, nodes);
+    let outcome = if opposite { fails_alone(&domains, &case) } else { holds_alone(&domains, &case) };
+    put(random, out, &format!("cases, a deep rule, N = {}", nodes), &domains, &goal, outcome);
 }
 
 /// True in this case and in no other.

@@ -287,9 +287,10 @@ impl<'r> Grower<'r> {
     }
 }
 
-/// A number of nodes; small ones are the most usual.
+/// A number of nodes; small ones are the most usual, since large ones take long.
 pub fn any_size(random: &mut Random) -> usize {
-    let most = random.pick(&[6, 6, 12, 31, 31, 62, MOST_NODES]);
+    let usual = random.pick(&[6, 6, 12, 31, 31, 62, MOST_NODES / 8]);
+    let most = if random.one_in(40) { MOST_NODES } else { usual };
     1 + random.below(most)
 }
 

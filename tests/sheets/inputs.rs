@@ -1,6 +1,8 @@
 // Inputs for the program: accepted sheets, each refusal, and lengths about those at which it stops reading.
 
 use crate::accepted;
+use crate::case_questions::affordable;
+use crate::few_cases::domains;
 use crate::grower::{self, Grower};
 use crate::judge::next_trial;
 use crate::limits::*;
@@ -16,6 +18,9 @@ use std::io;
 const OF_EACH: usize = 12;
 const CLASSES: [&str; 9] = ["accepted", "1", "2", "3", "4", "5", "6", "7", "8"];
 
+/// What the program may need to go through all cases of an input.
+const MOST_STEPS: f64 = 5_000_000.0;
+
 pub fn write(seed: u64, folder: &str) -> io::Result<()> {
     let mut random = Random::new(seed, "inputs");
     for (name, input) in of_each_length(&mut random) {
@@ -25,7 +30,7 @@ pub fn write(seed: u64, folder: &str) -> io::Result<()> {
     for class in CLASSES {
         let of_class: Vec<&Vec<u8>> = sheets
             .iter()
-            .filter(|(label, _)| label.split(':').next() == Some(class))
+            .filter(|(label, sheet)| label.split(':').next() == Some(class) && affordable(sheet, MOST_STEPS))
             .map(|(_, x)| x)
             .collect();
         for number in 0..OF_EACH {
@@ -38,7 +43,7 @@ pub fn write(seed: u64, folder: &str) -> io::Result<()> {
 
 /// Lengths at which the program must stop reading, or must not, and the longest script.
 fn of_each_length(random: &mut Random) -> Vec<(String, Vec<u8>)> {
-    let full = grower::accepted(random, MOST_NODES, 5);
+    let full = longest_sheet(random);
     let mut inputs = vec![("empty".to_string(), Vec::new()), ("full".to_string(), full.clone())];
     let of_length = |length: usize| {
         let mut input = full.clone();
@@ -57,6 +62,13 @@ fn of_each_length(random: &mut Random) -> Vec<(String, Vec<u8>)> {
     inputs.push(("small-and-a-byte".to_string(), [&small[..], &[0]].concat()));
     inputs.push(("small-and-full".to_string(), [small, full].concat()));
     inputs
+}
+
+fn longest_sheet(random: &mut Random) -> Vec<u8> {
+    let domains = domains(random, 5, 400);
+    let mut grower = Grower::with_domains(random, &domains);
+    let goal = grower.truth(MOST_NODES);
+    grower.sheet(&Table::of(&goal))
 }
 
 fn labelled_sheets(random: &mut Random, folder: &str) -> io::Result<Vec<(String, Vec<u8>)>> {

@@ -33,6 +33,7 @@ mod layout;
 mod limits;
 mod met;
 mod nodes;
+mod places;
 mod question;
 mod random;
 mod ranges;
@@ -51,6 +52,8 @@ mod script_edges;
 mod script_questions;
 mod script_required;
 mod scripts;
+mod shape_sheets;
+mod shapes;
 mod solver_sheets;
 mod trees;
 mod trial;
@@ -70,9 +73,10 @@ use trial::{Output, Part, PARTS};
 type Make = fn(&mut Random, &mut Output);
 
 /// The groups of each part; the first one of a part is small.
-const GROUPS: [(Part, &str, Make); 46] = [
+const GROUPS: [(Part, &str, Make); 52] = [
     (Part::Reading, "edge-cases", edges::make),
     (Part::Reading, "accepted", accepted::make),
+    (Part::Reading, "every-shape", shape_sheets::make),
     (Part::Reading, "refusal-1", whole_sheet::refusal_1),
     (Part::Reading, "refusal-2", whole_sheet::refusal_2),
     (Part::Reading, "refusal-3", whole_sheet::refusal_3),
@@ -81,6 +85,7 @@ const GROUPS: [(Part, &str, Make); 46] = [
     (Part::Reading, "refusal-6", nodes::refusal_6),
     (Part::Reading, "refusal-7", nodes::refusal_7),
     (Part::Reading, "refusal-8", ranges::make),
+    (Part::Reading, "refusal-places", places::make),
     (Part::Reading, "faults-at-once", at_once::make),
     (Part::Reading, "every-length", bulk::lengths),
     (Part::Reading, "one-byte-changed", bulk::changed_bytes),
@@ -90,6 +95,7 @@ const GROUPS: [(Part, &str, Make); 46] = [
     (Part::Cases, "cases-edge-cases", case_edges::make),
     (Part::Cases, "cases-few", few_cases::make),
     (Part::Cases, "cases-failing", failing::make),
+    (Part::Cases, "cases-shapes", shape_sheets::make),
     (Part::Cases, "cases-limits", case_limits::make),
     (Part::Cases, "cases-refused-sheets", refused_sheets),
     (Part::Script, "script-edge-cases", script_edges::make),
@@ -97,6 +103,7 @@ const GROUPS: [(Part, &str, Make); 46] = [
     (Part::Script, "script-kinds", scripts::kinds),
     (Part::Script, "script-numbers", scripts::numbers),
     (Part::Script, "script-long", scripts::long),
+    (Part::Script, "script-shapes", shape_sheets::make),
     (Part::Script, "script-many-cases", scripts::many_cases),
     (Part::Script, "script-solvers", solver_sheets::make),
     (Part::Script, "script-refused-sheets", refused_sheets),
@@ -104,6 +111,7 @@ const GROUPS: [(Part, &str, Make); 46] = [
     (Part::Ask, "ask-any", scripts::any),
     (Part::Ask, "ask-kinds", scripts::kinds),
     (Part::Ask, "ask-long", scripts::long),
+    (Part::Ask, "ask-shapes", shape_sheets::make),
     (Part::Ask, "ask-many-cases", scripts::many_cases),
     (Part::Ask, "ask-solvers", solver_sheets::make),
     (Part::Ask, "ask-refused-sheets", refused_sheets),
@@ -115,13 +123,14 @@ const GROUPS: [(Part, &str, Make); 46] = [
     (Part::Replies, "replies-unsat", replies::unsat),
     (Part::Replies, "replies-rewritten", reply_rewrites::make),
     (Part::Replies, "replies-others", replies::others),
+    (Part::Replies, "replies-shapes", shape_sheets::make),
     (Part::Replies, "replies-at-random", reply_random::make),
     (Part::Replies, "replies-refused-sheets", refused_sheets),
 ];
 
 /// Sheets refused with 1 to 8, put to the calls of another part.
 fn refused_sheets(random: &mut Random, out: &mut Output) {
-    let makes: [Make; 9] = [
+    let makes: [Make; 10] = [
         whole_sheet::refusal_1,
         whole_sheet::refusal_2,
         whole_sheet::refusal_3,
@@ -130,6 +139,7 @@ fn refused_sheets(random: &mut Random, out: &mut Output) {
         nodes::refusal_6,
         nodes::refusal_7,
         ranges::make,
+        places::make,
         at_once::make,
     ];
     makes.iter().for_each(|make| make(random, out));

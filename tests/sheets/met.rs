@@ -5,6 +5,7 @@ use crate::layout::*;
 use crate::limits::*;
 use crate::question::{Answer, Question};
 use crate::reply_met;
+use crate::script_questions::ROOM_OF_01;
 use crate::trees::KINDS;
 
 /// `first` is the answer to the trial's first question: the reading of the sheet, or of the reply.
@@ -46,10 +47,20 @@ fn kinds_of_node(call: &str, sheet: &[u8], number: u64, node: usize) -> Vec<Stri
         _ if node == last => "N - 1",
         _ => "a node between",
     };
+    let which = match node {
+        0..=248 => "a node up to 248".to_string(),
+        249..=254 => "a node of 249 to 254".to_string(),
+        255 | 256 | 257 | 511 | 512 => format!("node {}", node),
+        _ if node + 1 == MOST_NODES => "the last of the most nodes".to_string(),
+        _ if node + 2 == MOST_NODES => "the last but one of the most nodes".to_string(),
+        _ if node < 1_024 => "a node of 258 to 1,023".to_string(),
+        _ => "a node from 1,024 on".to_string(),
+    };
     let kind = sheet[node_at(node)];
     let kind = if KINDS.contains(&kind) { format!("kind {}", kind) } else { "no kind".to_string() };
     vec![
         format!("{}: {} at {}", call, number, place),
+        format!("{}: {} at {}", call, number, which),
         format!("{}: {} in block {}", call, number, 1 + node / NODES_IN_BLOCK),
         format!("{}: {} at {}", call, number, kind),
     ]
@@ -92,6 +103,15 @@ fn kind_of_block(sheet: &[u8], k: u64, answer: u64) -> String {
     }
 }
 
+/// How many nodes an accepted sheet has.
+pub fn nodes_of(sheet: &[u8]) -> &'static str {
+    match node_count(sheet) {
+        MOST_NODES => "the most nodes",
+        0..=255 => "up to 255 nodes",
+        _ => "over 255 nodes",
+    }
+}
+
 fn kinds_of_check(sheet: &[u8], answer: &Answer) -> Vec<String> {
     let (variables, room) =
         (sheet.get(VARIABLE_COUNT).map_or(0, |&count| usize::from(count)), answer.room.len() / 2);
@@ -104,10 +124,15 @@ fn kinds_of_check(sheet: &[u8], answer: &Answer) -> Vec<String> {
         _ => "less room than V",
     };
     match (answer.refusal(), answer.low()) {
-        (0, 0) => vec![format!("check: holds, V = {}", variables), format!("check: holds, {}", room)],
+        (0, 0) => vec![
+            format!("check: holds, V = {}", variables),
+            format!("check: holds, {}", room),
+            format!("check: holds, {}", nodes_of(sheet)),
+        ],
         (0, 1) => vec![
             format!("check: fails, V = {}", variables),
             format!("check: fails, {}", room),
+            format!("check: fails, {}", nodes_of(sheet)),
             format!("check: fails in {}", which_case(sheet, variables, &answer.numbers())),
         ],
         (9, place) => vec![format!("check: 9 at {}", place), format!("check: 9, {}", room)],
@@ -142,12 +167,21 @@ fn kinds_of_tally(sheet: &[u8], answer: &Answer) -> Vec<String> {
         MOST_CASES => "the most cases",
         _ => "some cases",
     };
-    vec![format!("tally: {}", counts), format!("tally: {}", count)]
+    let nodes = format!("tally: {}, {}", counts, nodes_of(sheet));
+    vec![format!("tally: {}", counts), format!("tally: {}", count), nodes]
 }
 
 /// The labels under which the length of the longest script is told, in each form.
 pub const LONGEST: &str = "script: the longest, in bytes";
 pub const LONGEST_ASKING: &str = "ask: the longest, in bytes";
+
+fn bytes_of_script(length: usize) -> &'static str {
+    if length > ROOM_OF_01 {
+        "over 4,096 bytes"
+    } else {
+        "up to 4,096 bytes"
+    }
+}
 
 /// A script as this call writes it.
 fn kinds_of_script(call: &str, sheet: &[u8], answer: &Answer) -> Vec<String> {
@@ -163,16 +197,17 @@ fn kinds_of_script(call: &str, sheet: &[u8], answer: &Answer) -> Vec<String> {
             vec![
                 format!("{}: written, V = {}", call, sheet[VARIABLE_COUNT]),
                 format!("{}: written, {} blocks", call, sheet.len() / BLOCK),
-                format!("{}: written, {}", call, room),
+                format!("{}: {} written, {}", call, bytes_of_script(length), room),
             ]
         }
         9 => {
             let room = match room {
                 0 => "no room",
                 _ if room + 1 == length => "one byte short",
+                ROOM_OF_01 => "document 01's room",
                 _ => "less room",
             };
-            vec![format!("{}: 9, {}", call, room)]
+            vec![format!("{}: 9 at {}, {}", call, bytes_of_script(length), room)]
         }
         _ => kinds_of_reading(call, sheet, answer),
     }

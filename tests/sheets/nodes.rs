@@ -90,7 +90,7 @@ fn zero_bytes(random: &mut Random, out: &mut Output, kind: u8) {
 }
 
 /// The names of this kind's operands, with their positions.
-fn operand_names(kind: u8) -> impl Iterator<Item = (usize, &'static str)> {
+pub fn operand_names(kind: u8) -> impl Iterator<Item = (usize, &'static str)> {
     OPERANDS.iter().copied().enumerate().take(operand_sorts(kind).len())
 }
 

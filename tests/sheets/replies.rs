@@ -9,6 +9,7 @@ use crate::random::Random;
 use crate::reply_questions::{all, Replied};
 use crate::reply_subjects::Subject;
 use crate::reply_text::{self, any, joined, some_blanks, with_gaps, words, Digits, BLANKS, DIGITS};
+use crate::shapes::DEEP;
 use crate::trees::*;
 use crate::trial::Output;
 
@@ -167,6 +168,11 @@ pub fn others(random: &mut Random, out: &mut Output) {
     for _ in 0..100 {
         many_cases(random, out);
     }
+    for _ in 0..4 {
+        for nodes in DEEP {
+            deep_rule(random, out, nodes);
+        }
+    }
 }
 
 fn to_another(random: &mut Random, out: &mut Output, variables: usize) {
@@ -198,6 +204,22 @@ fn any_rule(random: &mut Random, out: &mut Output, variables: usize) {
         let case: Vec<i64> = domains.iter().map(|domain| random.between(domain.0, domain.1)).collect();
         let reply = any(random, &case).bytes;
         out.ask_about("any: reply, any rule", &sheet, &reply, &all(variables, &Replied::Unknown));
+    }
+}
+
+/// The one case, and another, of a rule of exactly so many nodes.
+fn deep_rule(random: &mut Random, out: &mut Output, nodes: usize) {
+    let variables = random.below(5);
+    let (subject, fails_once) = Subject::deep(random, variables, nodes);
+    let cases = [(Some(subject.case.clone()), fails_once), (subject.other_case(random), !fails_once)];
+    for (case, fails) in cases {
+        let Some(case) = case else { continue };
+        let text = any(random, &case);
+        let (number, replied) = match fails {
+            true => ("accepted", Replied::Fails(text.digits)),
+            false => ("13", Replied::Refuses(13, 0)),
+        };
+        put(out, &format!("{}: reply, a deep rule, N = {}", number, nodes), &subject, &text.bytes, replied);
     }
 }
 

@@ -2,17 +2,23 @@
 
 use crate::judge::Trial;
 use crate::layout::VARIABLE_COUNT;
-use crate::met::kinds_of_reading;
+use crate::met::{kinds_of_reading, nodes_of};
 use crate::question::Answer;
 
 pub fn kinds_of_reply(trial: &Trial, answer: &Answer) -> Vec<String> {
     let variables = || trial.sheet[VARIABLE_COUNT];
     match (answer.refusal(), answer.low()) {
         (0, 0) => vec![format!("reply: unsat claimed, V = {}", variables())],
-        (0, 1) => vec![format!("reply: fails, V = {}", variables())],
+        (0, 1) => vec![
+            format!("reply: fails, V = {}", variables()),
+            format!("reply: fails, {}", nodes_of(trial.sheet)),
+        ],
         (11, place) => kinds_of_11(trial.reply, place as usize),
         (12, place) => vec![format!("reply: 12 at variable {}", place)],
-        (13, place) => vec![format!("reply: 13 at {}, V = {}", place, variables())],
+        (13, place) => vec![
+            format!("reply: 13 at {}, V = {}", place, variables()),
+            format!("reply: 13 at {}, {}", place, nodes_of(trial.sheet)),
+        ],
         _ => kinds_of_reading("reply", trial.sheet, answer),
     }
 }

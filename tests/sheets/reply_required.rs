@@ -2,18 +2,19 @@
 
 use crate::limits::{MOST_BLOCKS, MOST_VARIABLES};
 use crate::met::LONGEST_ASKING;
-use crate::required::{add, refusals, All, KINDS};
+use crate::required::{add, deep, refusals, shapes, All, KINDS};
+use crate::script_required::rooms;
 
 pub fn of_ask(all: &mut All) {
     add(all, "accepted: ask by hand, ", "sheet A|no variables|every symbol");
     all.extend(KINDS.iter().map(|kind| format!("accepted: ask, a node of kind {}", kind)));
-    add(all, "accepted: ask, ", "any|long|the longest|too many cases to check");
+    add(all, "accepted: ask, ", "any|long|long, of constants|the longest|too many cases to check");
     add(all, "accepted: ask for solvers, ", "any|holds|about zero|a variable not read");
     refusals(all, "ask");
     all.extend((0..=MOST_VARIABLES).map(|variables| format!("ask: written, V = {}", variables)));
     all.extend((2..=MOST_BLOCKS).map(|blocks| format!("ask: written, {} blocks", blocks)));
-    add(all, "ask: written, ", "just room|room for one byte more|room enough for all|room for more");
-    add(all, "ask: 9, ", "no room|less room|one byte short");
+    rooms(all, "ask");
+    shapes(all, "accepted: ask, ");
     all.push(LONGEST_ASKING.to_string());
 }
 
@@ -24,6 +25,9 @@ pub fn of_replies(all: &mut All) {
     rewritten(all);
     verdicts(all);
     refusals(all, "reply");
+    shapes(all, "any: reply, ");
+    deep(all, "accepted: reply, ");
+    deep(all, "13: reply, ");
     digits(all);
 }
 
@@ -111,6 +115,9 @@ fn verdicts(all: &mut All) {
         all.push(format!("reply: 13 at 0, V = {}", variables));
     }
     all.extend((0..MOST_VARIABLES).map(|variable| format!("reply: 12 at variable {}", variable)));
+    for verdict in ["fails", "13 at 0"] {
+        add(all, &format!("reply: {}, ", verdict), "up to 255 nodes|over 255 nodes|the most nodes");
+    }
     add(all, "reply: 11 at ", "the length|the first byte|the last byte|a byte between");
     add(all, "reply: 11, ", "no bytes|NUL|a blank|an opening parenthesis|a closing parenthesis|a semicolon");
     add(all, "reply: 11, ", "a number sign|a digit|a letter|a byte above 127|another byte");

@@ -5,6 +5,7 @@ use crate::few_cases::domains;
 use crate::grower::Grower;
 use crate::limits::{HIGH, LOW};
 use crate::random::Random;
+use crate::shapes::deep;
 use crate::trees::*;
 
 /// A sheet whose rule fails in one case alone, or in all but one.
@@ -16,19 +17,31 @@ pub struct Subject {
 
 impl Subject {
     pub fn fails_once(random: &mut Random, variables: usize) -> Subject {
-        Subject::made(random, variables, |there| node(3, vec![there]))
+        Subject::made(random, variables, |_, there| node(3, vec![there]))
     }
 
     pub fn holds_once(random: &mut Random, variables: usize) -> Subject {
-        Subject::made(random, variables, |there| there)
+        Subject::made(random, variables, |_, there| there)
     }
 
-    fn made(random: &mut Random, variables: usize, goal: fn(Tree) -> Tree) -> Subject {
+    /// One with exactly so many nodes of which the deepest alone decide; and whether it fails once.
+    pub fn deep(random: &mut Random, variables: usize, nodes: usize) -> (Subject, bool) {
+        let mut fails_once = false;
+        let subject = Subject::made(random, variables, |random, there| {
+            let (goal, opposite) = deep(random, there, nodes);
+            fails_once = opposite;
+            goal
+        });
+        (subject, fails_once)
+    }
+
+    fn made(random: &mut Random, variables: usize, goal: impl FnOnce(&mut Random, Tree) -> Tree) -> Subject {
         let most = random.pick(&[1, 6, 60, 600, 1_000_000]);
         let domains = domains(random, variables, most);
         let case: Vec<i64> = domains.iter().map(|domain| random.between(domain.0, domain.1)).collect();
         let there = if variables == 0 { node(1, Vec::new()) } else { at(random, &domains, &case) };
-        let sheet = Grower::with_domains(random, &domains).sheet(&Table::of(&goal(there)));
+        let goal = goal(random, there);
+        let sheet = Grower::with_domains(random, &domains).sheet(&Table::of(&goal));
         Subject { sheet, domains, case }
     }
 

@@ -28,13 +28,16 @@ pub fn of(parts: &[Part]) -> BTreeSet<String> {
 fn of_reading(all: &mut All) {
     accepted(all);
     whole_sheet(all);
+    layout(all);
     variables(all);
     nodes(all);
     types(all);
     ranges(all);
     at_once(all);
+    places(all);
     bulk(all);
     edges(all);
+    shapes(all, "accepted: ");
     all.extend((2..=MOST_BLOCKS).map(|blocks| format!("read: accepted, {} blocks", blocks)));
     refusals(all, "read");
     names_and_blocks(all);
@@ -67,7 +70,8 @@ fn whole_sheet(all: &mut All) {
         "1: ",
         "no multiple of 512 over the most|every length, bytes at random|every length, checks right",
     );
-    add(all, "1: ", "blocks about number 65,521");
+    add(all, "1: ", "blocks about number 65,521|a right length and 65,536 more");
+    add(all, "1: ", "one node over the most|a full block of nodes over the most");
     for k in 0..MOST_BLOCKS {
         add(
             all,
@@ -83,10 +87,17 @@ fn whole_sheet(all: &mut All) {
         all.push(format!("2: check of block {0} begun at {0}", k));
         all.push(format!("2: block {} and a later one", k - 1));
     }
-    add(all, "2: ", "each byte changed in turn|any byte changed");
+    all.extend((0..MOST_BLOCKS).map(|k| format!("2: each byte changed in turn, block {}", k)));
+    add(all, "2: ", "any byte changed");
     add(all, "3: edition ", "0|2|256|257|65535|any");
+    all.extend((1..=8).map(|number| format!("{}: every name asked", number)));
+}
+
+fn layout(all: &mut All) {
     add(all, "4: N = ", "0, one block|0, some nodes|one over the most|over the most, first byte 0|65,535");
     add(all, "4: ", "N = any over the most|V = one over the most|V = 255|V = any over the most");
+    add(all, "4: ", "N over the most in a longest sheet|one node over the most, its block cut off");
+    add(all, "4: first byte of N right, second ", "too high|cut off");
     add(all, "4: ", "second byte of N|one block too short|one block too long|length any other");
     add(all, "4: ", "a full last block, N one more|one node in the last block, N one less");
     add(all, "4: ", "byte 5|byte 6|byte 7");
@@ -95,7 +106,6 @@ fn whole_sheet(all: &mut All) {
     for zone in zones.iter().map(|zone| zone.to_string()).chain(node_tails) {
         add(all, &format!("4: {}, ", zone), "first byte|last byte|any byte");
     }
-    all.extend((1..=8).map(|number| format!("{}: every name asked", number)));
 }
 
 fn variables(all: &mut All) {
@@ -201,6 +211,54 @@ fn at_once(all: &mut All) {
     add(all, "any: ", "several faults");
 }
 
+fn places(all: &mut All) {
+    let low = [247, 248, 249, 252, 254, 255, 256, 257, 258, 511, 512, 513, 768, 1_023, 1_024, 1_025];
+    let high = [1_280, 1_536, 1_792, MOST_NODES - 3, MOST_NODES - 2, MOST_NODES - 1];
+    for node in low.into_iter().chain(high) {
+        all.extend([6, 7, 8].map(|number| format!("{}: at node {}", number, node)));
+        all.push(format!("6: goal subtree not the whole table, N = {}", node + 1));
+        all.push(format!("7: an integer for a goal, N = {}", node + 1));
+    }
+    add(all, "6: goal subtree from node ", "256 on|512 on|1024 on|1792 on");
+    for (kind, operand) in operands() {
+        let wrong = "cut off|one too high|one too low";
+        add(all, &format!("6: second byte of operand {} of kind {} ", operand, kind), wrong);
+    }
+}
+
+/// Each kind with the name of each of its operands.
+fn operands() -> Vec<(u8, &'static str)> {
+    let named = |&(kinds, _, names): &(&'static [u8], _, &'static str)| {
+        kinds.iter().flat_map(move |&kind| names.split('|').map(move |name| (kind, name)))
+    };
+    USES.iter().flat_map(named).filter(|(_, name)| !name.is_empty()).collect()
+}
+
+/// Rules of which the deepest nodes alone decide, as a part labels them.
+pub fn deep(all: &mut All, label: &str) {
+    for size in [255, 256, 257, 512, 1_024, MOST_NODES - 1, MOST_NODES] {
+        all.push(format!("{}a deep rule, N = {}", label, size));
+    }
+}
+
+/// Sheets of every shape and size, as a part labels them.
+pub fn shapes(all: &mut All, label: &str) {
+    for (kind, operand) in operands() {
+        let shape = format!("{}a chain through operand {} of kind {}, ", label, operand, kind);
+        add(all, &shape, "the most nodes|other sizes");
+    }
+    for kind in [4, 5, 6, 7, 8, 9, 10, 19, 20, 21, 22] {
+        add(all, &format!("{}a balanced tree of kind {}, ", label, kind), "the most nodes|other sizes");
+    }
+    let low = [30, 31, 32, 62, 247, 248, 249, 255, 256, 257, 279, 280, 511, 512, 1_024, 1_025];
+    let high = [31, 30, 1, 0].map(|fewer| MOST_NODES - fewer);
+    for size in low.into_iter().chain(high) {
+        all.push(format!("{}a mixed chain, N = {}", label, size));
+        all.push(format!("{}a balanced tree, N = {}", label, size));
+    }
+    all.extend((2..=MOST_BLOCKS).map(|blocks| format!("{}any shape of {} blocks", label, blocks)));
+}
+
 fn bulk(all: &mut All) {
     add(all, "any: ", "right length, bytes at random|right length, checks right");
     add(all, "any: ", "bytes at random|bytes at random, checks right|header right, then bytes at random");
@@ -210,14 +268,14 @@ fn bulk(all: &mut All) {
 }
 
 fn edges(all: &mut All) {
-    add(all, "accepted: ", "sheet A|edge 4, 4,608 bytes|edge 7|edge 9|edge 9, and -32,768|edge 11");
+    add(all, "accepted: ", "sheet A|edge 4, 33,280 bytes|edge 7|edge 9|edge 9, and -32,768|edge 11");
     add(all, "accepted: edge 11, and ", "32,755|-32,753");
     add(
         all,
         "",
         "4: worked check|2: worked check, one off|1: worked check, a byte short|1: worked check, a byte over",
     );
-    add(all, "1: edge 4, ", "empty|5,120 bytes");
+    add(all, "", "1: edge 4, empty|1: edge 4, 33,281 bytes|1: edge 4, 33,792 bytes|4: edge 4, 32,768 bytes");
     add(
         all,
         "8: ",
@@ -238,6 +296,14 @@ pub fn refusals(all: &mut All, call: &str) {
     add(all, &format!("{}: 8 at ", call), "a node between|N - 1");
     for number in [6, 7, 8] {
         all.extend((1..MOST_BLOCKS).map(|k| format!("{}: {} in block {}", call, number, k)));
+        let nodes = "up to 248|of 249 to 254|of 258 to 1,023|from 1,024 on";
+        add(all, &format!("{}: {} at a node ", call, number), nodes);
+        add(all, &format!("{}: {} at node ", call, number), "255|256|257|511|512");
+        add(
+            all,
+            &format!("{}: {} at the last ", call, number),
+            "of the most nodes|but one of the most nodes",
+        );
     }
     all.extend(KINDS.iter().map(|kind| format!("{}: 6 at kind {}", call, kind)));
     all.extend(KINDS[2..].iter().map(|kind| format!("{}: 7 at kind {}", call, kind)));

@@ -7,6 +7,9 @@ use crate::random::Random;
 use crate::trees::*;
 use crate::trial::{reading, Asked, Expected, Refused};
 
+/// The bytes that document 01 gives as enough: they are for at most 248 nodes.
+pub const ROOM_OF_01: usize = 4_096;
+
 /// Which of the two scripts a sheet has is asked for: one for a verdict, or one for the variables' values too.
 #[derive(Clone, Copy, PartialEq)]
 pub enum Form {
@@ -78,10 +81,14 @@ fn text_length(tree: &Tree) -> usize {
     own.len() + tree.operands.iter().map(text_length).sum::<usize>()
 }
 
-/// The reading, and the script with no room, less, one byte too little, just enough, one byte more, and enough for all.
+/// The reading, and the script with no room, less, one byte too little, just enough, one byte more, and enough for all;
+/// with document 01's room too, where that is too little.
 pub fn every_room(random: &mut Random, form: Form, length: usize) -> Vec<Asked> {
     let less = random.below(length);
-    let lengths = [0, less, length - 1, length, length + 1, ENOUGH_ROOM];
+    let mut lengths = vec![0, less, length - 1, length, length + 1, ENOUGH_ROOM];
+    if length > ROOM_OF_01 {
+        lengths.push(ROOM_OF_01);
+    }
     let known = |room: usize| (room < length).then(|| Known::refused(9, length));
     let scripts = lengths.iter().map(|&bytes| (form.question(room(random, bytes)), known(bytes)));
     [(Question::Read, Some(Known::said(0)))].into_iter().chain(scripts).collect()

@@ -6,6 +6,7 @@ use crate::grower::{any_size, Grower};
 use crate::limits::{MOST_NODES, MOST_VARIABLES};
 use crate::random::Random;
 use crate::script_questions::{every_room, script_length};
+use crate::shapes::{chain, Link};
 use crate::trees::*;
 use crate::trial::Output;
 
@@ -89,14 +90,21 @@ fn one_number(random: &mut Random, out: &mut Output, value: i64) {
 pub fn long(random: &mut Random, out: &mut Output) {
     for _ in 0..10 {
         put(random, out, "the longest", MOST_VARIABLES, longest);
+        put(random, out, "long, of constants", MOST_VARIABLES, |grower| {
+            chain(&mut Grower::new(grower.random, 0), &LONG_WORDED, MOST_NODES)
+        });
     }
-    for _ in 0..400 {
+    for _ in 0..100 {
         put(random, out, "long", MOST_VARIABLES, |grower| {
-            let size = MOST_NODES - grower.random.below(40);
+            let usual = grower.random.pick(&[40, MOST_NODES - MOST_NODES / 8]);
+            let size = MOST_NODES - grower.random.below(usual);
             grower.truth(size)
         });
     }
 }
+
+/// Of the kinds with two operands and more, those with the longest words.
+const LONG_WORDED: [Link; 5] = [(SUM, 0), (DIFFERENCE, 1), (PRODUCT, 0), (PRODUCT, 1), (CHOICE, 1)];
 
 /// The goal of a longest script. No node's text is longer than a comparison's and no leaf's than a constant's;
 /// of the others, minus takes the most for each node.

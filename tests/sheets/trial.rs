@@ -2,7 +2,7 @@
 
 use crate::case_questions;
 use crate::layout::VARIABLE_COUNT;
-use crate::limits::{BLOCK, MOST_VARIABLES};
+use crate::limits::{BLOCK, MOST_BLOCKS, MOST_VARIABLES};
 use crate::question::{Known, Question};
 use crate::random::Random;
 use crate::reply_questions;
@@ -48,9 +48,10 @@ pub const PARTS: [(&str, Part); 5] = [
 ];
 
 /// Block numbers whose place in bytes, or whose k + 1, leaves one width of number or another.
-pub const FAR_BLOCKS: [u64; 18] = [
-    9,
-    10,
+pub const FAR_BLOCKS: [u64; 19] = [
+    MOST_BLOCKS as u64 - 1,
+    MOST_BLOCKS as u64,
+    MOST_BLOCKS as u64 + 1,
     255,
     256,
     65_519,
@@ -99,6 +100,10 @@ impl Output {
             }
         };
         self.ask_all(label, sheet, &questions);
+    }
+
+    pub fn part(&self) -> Part {
+        self.part
     }
 
     /// The form of the scripts that are asked for.

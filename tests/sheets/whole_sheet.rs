@@ -25,6 +25,24 @@ pub fn refusal_1(random: &mut Random, out: &mut Output) {
     }
     let huge = lengthened(random, 1 << 20);
     out.put(random, "1: a multiple of 512 over the most", &huge, Refused(1, 0));
+    for _ in 0..10 {
+        too_many_nodes(random, out);
+        // Whoever keeps a length in 16 bits finds an accepted sheet.
+        let sheet = any_accepted(random);
+        let long = [&sheet[..], &vec![0; (1 << 16) - sheet.len()], &sheet].concat();
+        out.put(random, "1: a right length and 65,536 more", &long, Refused(1, 0));
+    }
+}
+
+/// Sheets that are right in all but that they have more nodes than they may.
+fn too_many_nodes(random: &mut Random, out: &mut Output) {
+    let variables = random.below(MOST_VARIABLES + 1);
+    let mut one_more = accepted(random, MOST_NODES + 1, variables);
+    out.put(random, "1: one node over the most", &one_more, Refused(1, 0));
+    one_more.truncate(MOST_BYTES);
+    out.put(random, "4: one node over the most, its block cut off", &one_more, Refused(4, 0));
+    let block_more = accepted(random, MOST_NODES + NODES_IN_BLOCK, variables);
+    out.put(random, "1: a full block of nodes over the most", &block_more, Refused(1, 0));
 }
 
 /// An accepted sheet with zero bytes after it, all checks right.
@@ -39,12 +57,12 @@ pub fn lengthened(random: &mut Random, length: usize) -> Vec<u8> {
 
 pub fn refusal_2(random: &mut Random, out: &mut Output) {
     for k in 0..MOST_BLOCKS {
-        for _ in 0..25 {
+        for _ in 0..4 {
             changed_block(random, out, k);
             check_begun_elsewhere(random, out, k);
             two_wrong_blocks(random, out, k);
         }
-        for _ in 0..4 {
+        for _ in 0..2 {
             equal_modulo(random, out, k);
         }
     }
@@ -53,7 +71,7 @@ pub fn refusal_2(random: &mut Random, out: &mut Output) {
 /// An accepted sheet that has block k.
 pub fn accepted_with_block(random: &mut Random, k: usize) -> Vec<u8> {
     let least = if k < 2 { 1 } else { NODES_IN_BLOCK * (k - 1) + 1 };
-    let most = if random.one_in(2) { MOST_NODES } else { (least + NODES_IN_BLOCK - 1).min(MOST_NODES) };
+    let most = if random.one_in(4) { MOST_NODES } else { (least + NODES_IN_BLOCK - 1).min(MOST_NODES) };
     let nodes = least + random.below(most - least + 1);
     let variables = random.below(MOST_VARIABLES + 1);
     accepted(random, nodes, variables)
@@ -111,15 +129,19 @@ fn with_low_check(random: &mut Random, k: usize) -> Vec<u8> {
     let mut sheet = sheet_of_constants(random);
     let free = if k == 0 { variable_at(MOST_VARIABLES - 1) + GREATEST } else { last_constant(&sheet, k) };
     let other = if k == 0 { variable_at(MOST_VARIABLES - 2) + GREATEST } else { free - NODE_BYTES };
+    // Any value does in a constant, and as max where min is -32,768.
+    let places = [free, free + 1, other];
+    places.iter().for_each(|&place| sheet[place] = 0);
+    let without = u32::from(check(&sheet, k));
     loop {
-        // Any value does in a constant, and as max where min is -32,768.
-        sheet[free] = random.byte();
-        sheet[free + 1] = random.byte();
-        if check(&sheet, k) <= 14 {
+        let bytes = [random.byte(), random.byte(), random.byte()];
+        let weighed =
+            places.iter().zip(bytes).map(|(place, byte)| (place % BLOCK + 1) as u32 * u32::from(byte));
+        if (without + weighed.sum::<u32>()) % MODULUS <= 14 {
+            places.iter().zip(bytes).for_each(|(&place, byte)| sheet[place] = byte);
             seal(&mut sheet);
             return sheet;
         }
-        sheet[other] = random.byte();
     }
 }
 
@@ -168,10 +190,15 @@ fn edition_spoilt(random: &mut Random, out: &mut Output, label: &str, edition: u
 pub fn refusal_4(random: &mut Random, out: &mut Output) {
     for _ in 0..25 {
         counts_spoilt(random, out);
+        second_byte_spoilt(random, out);
         length_spoilt(random, out);
         header_zeros_spoilt(random, out);
+        node_slots_spoilt(random, out);
+    }
+    for _ in 0..3 {
         node_zeros_spoilt(random, out);
     }
+    counts_over_the_most(random, out);
 }
 
 fn put_4(random: &mut Random, out: &mut Output, label: &str, mut sheet: Vec<u8>) {
@@ -198,10 +225,6 @@ fn counts_spoilt(random: &mut Random, out: &mut Output) {
         put(&mut sheet, NODE_COUNT, count as u16);
         put_4(random, out, &format!("4: N = {}", label), sheet);
     }
-    // The length is then that of many nodes fewer or more.
-    let mut sheet = any_accepted(random);
-    sheet[NODE_COUNT + 1] = random.other_byte(sheet[NODE_COUNT + 1]);
-    put_4(random, out, "4: second byte of N", sheet);
 
     let over = MOST_VARIABLES + 1;
     let any = over + random.below(256 - over);
@@ -210,6 +233,37 @@ fn counts_spoilt(random: &mut Random, out: &mut Output) {
             if random.one_in(2) { accepted(random, 5, MOST_VARIABLES) } else { any_accepted(random) };
         sheet[VARIABLE_COUNT] = count as u8;
         put_4(random, out, &format!("4: V = {}", label), sheet);
+    }
+}
+
+/// The length is then that of many nodes fewer or more.
+fn second_byte_spoilt(random: &mut Random, out: &mut Output) {
+    let mut sheet = any_accepted(random);
+    sheet[NODE_COUNT + 1] = random.other_byte(sheet[NODE_COUNT + 1]);
+    put_4(random, out, "4: second byte of N", sheet);
+    // Whoever takes the first byte alone finds just the nodes that are there.
+    let nodes = 1 + random.below(255);
+    let mut sheet = accepted(random, nodes, 3);
+    sheet[NODE_COUNT + 1] = random.nonzero();
+    put_4(random, out, "4: first byte of N right, second too high", sheet);
+    let nodes = 256 + random.below(MOST_NODES - 255);
+    let mut sheet = accepted(random, nodes, 3);
+    sheet[NODE_COUNT + 1] = 0;
+    put_4(random, out, "4: first byte of N right, second cut off", sheet);
+}
+
+/// Too many nodes for any sheet, in a longest one: the next few, those with the most's first byte, those at the edge of
+/// one width of number or another, and any.
+fn counts_over_the_most(random: &mut Random, out: &mut Output) {
+    let full = accepted(random, MOST_NODES, 1);
+    let near = (1..=2 * NODES_IN_BLOCK).map(|more| MOST_NODES + more);
+    let same_first = (1..8).map(|more| MOST_NODES + 256 * more);
+    let edges = (11..16).flat_map(|bits| [(1 << bits) - 1, 1 << bits, (1 << bits) + 1]);
+    let any: Vec<usize> = (0..40).map(|_| MOST_NODES + 1 + random.below(65_535 - MOST_NODES)).collect();
+    for count in near.chain(same_first).chain(edges).chain(any) {
+        let mut sheet = full.clone();
+        put(&mut sheet, NODE_COUNT, count as u16);
+        put_4(random, out, "4: N over the most in a longest sheet", sheet);
     }
 }
 
@@ -271,11 +325,14 @@ fn header_zeros_spoilt(random: &mut Random, out: &mut Output) {
     zone_spoilt(random, out, "bytes behind the variables", &sheet, AFTER_VARIABLES, CONTENT);
 }
 
-fn node_zeros_spoilt(random: &mut Random, out: &mut Output) {
+fn node_slots_spoilt(random: &mut Random, out: &mut Output) {
     let nodes = NODES_IN_BLOCK * random.below(MOST_BLOCKS - 1) + 1 + random.below(NODES_IN_BLOCK - 1);
     let sheet = accepted(random, nodes, 3);
     let slots_end = sheet.len() - BLOCK + AFTER_NODES;
     zone_spoilt(random, out, "node slots from N on", &sheet, node_at(nodes), slots_end);
+}
+
+fn node_zeros_spoilt(random: &mut Random, out: &mut Output) {
     for k in 1..MOST_BLOCKS {
         let sheet = accepted_with_block(random, k);
         let zone = format!("bytes behind the nodes of block {}", k);
