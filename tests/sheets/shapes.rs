@@ -23,21 +23,33 @@ pub const DOMAINS: [Range; 4] = [(0, 1), (-1, 0), (-1, 1), (1, 1)];
 /// A truth value of exactly so many nodes: links that are picked from these, one over the other, and above them as many
 /// truth values as are missing.
 pub fn chain(grower: &mut Grower, links: &[Link], nodes: usize) -> Tree {
-    let mut tree = bottom(grower, operand_sorts(links[0].0)[links[0].1]);
-    let mut size = tree.size();
-    loop {
-        let link = grower.random.pick(links);
+    let bottom = bottom(grower, operand_sorts(links[0].0)[links[0].1]);
+    // Each adds a node, so these are enough.
+    let picked: Vec<Link> = (0..nodes).map(|_| grower.random.pick(links)).collect();
+    linked(bottom, picked.into_iter(), nodes, |sort| leaf(grower, sort))
+}
+
+/// As many of these links over a tree as go into so many nodes, with leaves for the other operands.
+pub fn linked(
+    bottom: Tree,
+    links: impl Iterator<Item = Link>,
+    nodes: usize,
+    mut leaf: impl FnMut(Sort) -> Tree,
+) -> Tree {
+    let mut size = bottom.size();
+    let mut tree = bottom;
+    for link in links {
         let mut next = between(tree.sort(), operand_sorts(link.0)[link.1]);
         next.push(link);
         if size + added(&next) + added(&between(gives(link.0), Truth)) > nodes {
             break;
         }
         size += added(&next);
-        tree = next.into_iter().fold(tree, |tree, link| over(grower, link, tree));
+        tree = next.into_iter().fold(tree, |tree, link| over(link, tree, &mut leaf));
     }
     let last = between(tree.sort(), Truth);
     size += added(&last);
-    let tree = last.into_iter().fold(tree, |tree, link| over(grower, link, tree));
+    let tree = last.into_iter().fold(tree, |tree, link| over(link, tree, &mut leaf));
     (size..nodes).fold(tree, |tree, _| node(3, vec![tree]))
 }
 
@@ -71,8 +83,8 @@ fn added(links: &[Link]) -> usize {
 }
 
 /// A node over leaves, but for one operand.
-fn over(grower: &mut Grower, (kind, operand): Link, tree: Tree) -> Tree {
-    let mut operands: Vec<Tree> = operand_sorts(kind).iter().map(|&sort| leaf(grower, sort)).collect();
+fn over((kind, operand): Link, tree: Tree, leaf: &mut impl FnMut(Sort) -> Tree) -> Tree {
+    let mut operands: Vec<Tree> = operand_sorts(kind).iter().map(|&sort| leaf(sort)).collect();
     operands[operand] = tree;
     node(kind, operands)
 }
