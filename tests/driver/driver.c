@@ -13,7 +13,7 @@ extern void *mmap(void *, size, int, int, int, long);
 extern int mprotect(void *, size, int);
 
 enum { PAGE = 4096, MOST_BYTES = 64 << 20, MOST_REPLY = 16 << 20, MOST_ROOM = 1 << 20, MOST_ANSWERS = 1 << 20, MOST_QUESTIONS = 1024 };
-enum { QUESTION = 9, LENT_TWICE = 4, BESIDE = 64 };
+enum { QUESTION = 9, LENT_TWICE = 8, BESIDE = 64 };
 enum { /* exit statuses */
     CUT_SHORT = 2, TOO_MUCH = 3, NO_MEMORY = 4, NOT_WRITTEN = 5, LENT_CHANGED = 6, NO_SUCH_SUBJECT = 7,
     NOT_ALIKE = 8, CHANGED_BESIDE_ROOM = 9

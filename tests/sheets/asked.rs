@@ -11,7 +11,7 @@ use crate::trial::*;
 // ---- names
 
 pub fn names(random: &mut Random, out: &mut Output) {
-    for _ in 0..100 {
+    for _ in 0..60 {
         for variables in 0..=MOST_VARIABLES {
             let mut grower = Grower::new(random, variables);
             let size = any_size(grower.random);

@@ -40,10 +40,18 @@ impl Replied {
     }
 }
 
-/// The reply, then the digits of all variables, of two that there aren't, and of the last that can be named.
+/// The reply, then the digits of variables, of some that there aren't, and of the last that can be named: of all the
+/// variables where the digits are known, and otherwise of the first, the middle and the last, since each takes time.
 pub fn all(variables: usize, replied: &Replied) -> Vec<Asked> {
-    let named = (0..=variables as u16 + 1).chain([u16::MAX]);
-    let digits = named.map(|variable| (Question::Digits(variable), replied.digits(variable.into())));
+    let count = variables as u16;
+    let mut named: Vec<u16> = match replied {
+        Replied::Fails(_) => (0..=count + 1).collect(),
+        _ => vec![0, count / 2, count.saturating_sub(1), count],
+    };
+    named.dedup();
+    named.push(u16::MAX);
+    let digits =
+        named.into_iter().map(|variable| (Question::Digits(variable), replied.digits(variable.into())));
     [(Question::Reply, replied.said())].into_iter().chain(digits).collect()
 }
 

@@ -81,16 +81,33 @@ fn text_length(tree: &Tree) -> usize {
     own.len() + tree.operands.iter().map(text_length).sum::<usize>()
 }
 
-/// The reading, and the script with no room, less, one byte too little, just enough, one byte more, and enough for all;
-/// with document 01's room too, where that is too little.
-pub fn every_room(random: &mut Random, form: Form, length: usize) -> Vec<Asked> {
-    let less = random.below(length);
-    let mut lengths = vec![0, less, length - 1, length, length + 1, ENOUGH_ROOM];
+/// Lengths other than one byte too little and just enough: none, less, one byte more, enough for all, and document 01's
+/// where that is too little.
+fn other_lengths(random: &mut Random, length: usize) -> Vec<usize> {
+    let mut lengths = vec![0, random.below(length), length + 1, ENOUGH_ROOM];
     if length > ROOM_OF_01 {
         lengths.push(ROOM_OF_01);
     }
+    lengths
+}
+
+/// The reading, and the script with every length of room.
+pub fn every_room(random: &mut Random, form: Form, length: usize) -> Vec<Asked> {
+    let others = other_lengths(random, length);
+    in_rooms(random, form, length, &others)
+}
+
+/// The reading, and the script with one byte too little, just enough, and one other length, since each takes time.
+pub fn some_rooms(random: &mut Random, form: Form, length: usize) -> Vec<Asked> {
+    let others = other_lengths(random, length);
+    let other = random.pick(&others);
+    in_rooms(random, form, length, &[other])
+}
+
+fn in_rooms(random: &mut Random, form: Form, length: usize, others: &[usize]) -> Vec<Asked> {
     let known = |room: usize| (room < length).then(|| Known::refused(9, length));
-    let scripts = lengths.iter().map(|&bytes| (form.question(room(random, bytes)), known(bytes)));
+    let lengths = [length - 1, length].into_iter().chain(others.iter().copied());
+    let scripts = lengths.map(|bytes| (form.question(room(random, bytes)), known(bytes)));
     [(Question::Read, Some(Known::said(0)))].into_iter().chain(scripts).collect()
 }
 
@@ -102,10 +119,11 @@ pub fn any(random: &mut Random, form: Form, expected: Expected) -> Vec<Asked> {
     };
     let any_length = random.below(600);
     let length = random.pick(&[0, 1, any_length, any_length]);
+    let long = random.one_in(10);
     vec![
         (Question::Read, reading(expected).map(Known::said)),
         (form.question(room(random, length)), known.clone()),
         // Not often, since a long room takes long to compare.
-        (form.question(room(random, if length % 16 == 0 { ENOUGH_ROOM } else { 200 })), known),
+        (form.question(room(random, if long { ENOUGH_ROOM } else { 200 })), known),
     ]
 }

@@ -5,7 +5,7 @@ use crate::case_limits;
 use crate::grower::{any_size, Grower};
 use crate::limits::{MOST_NODES, MOST_VARIABLES};
 use crate::random::Random;
-use crate::script_questions::{every_room, script_length};
+use crate::script_questions::{every_room, script_length, some_rooms, ROOM_OF_01};
 use crate::shapes::{chain, Link};
 use crate::trees::*;
 use crate::trial::Output;
@@ -47,10 +47,12 @@ fn put(
     ask(random, out, label, &sheet, &goal, variables);
 }
 
-/// Asks for the script in every room.
+/// Asks for the script in some rooms, or in every room where it is long, as few are.
 fn ask(random: &mut Random, out: &mut Output, label: &str, sheet: &[u8], goal: &Tree, variables: usize) {
     let form = out.form();
-    let questions = every_room(random, form, script_length(form, goal, variables));
+    let length = script_length(form, goal, variables);
+    let rooms = if length > ROOM_OF_01 { every_room } else { some_rooms };
+    let questions = rooms(random, form, length);
     out.ask_all(&format!("accepted: {}, {}", form.call(), label), sheet, &questions);
 }
 
