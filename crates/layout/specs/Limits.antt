@@ -1,4 +1,4 @@
--- The sizes, places and limits of document 01, "The sheet in 512-byte blocks", each named once.
+-- The sizes, places and limits of document 01, "The sheet in 512-byte blocks", and of document 02, item 3, each named once.
 use Prim.Native.Nat.{ℕ, _+_, _-_, _*_, _/_, _%_}
 
 -- a block, and the bytes of it that are no check
@@ -86,6 +86,7 @@ spareStart = 10
 abbrev pub nodesInBlock : ℕ
 nodesInBlock = 31
 
+-- the most nodes of a sheet (document 02, item 3)
 abbrev pub mostNodes : ℕ
 mostNodes = 1984
 

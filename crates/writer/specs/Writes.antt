@@ -20,7 +20,7 @@ use Rattle.room.specs.Room.{over}
 unfoldable pub scriptRefusal : ℕ → Form → List ℕ → ℕ → Option Refusal
 scriptRefusal limit f s room = refusalOf limit s otherwise unless (leb (length (script f (ruleIn s))) room) 9 (length (script f (ruleIn s)))
 
--- a room of so many bytes is enough for both scripts of every accepted sheet
+-- a room of so many bytes is enough for both scripts of every accepted sheet (document 02, item 3)
 abbrev pub enoughRoom : ℕ
 enoughRoom = 20480
 
