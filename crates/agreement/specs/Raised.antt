@@ -1,5 +1,5 @@
--- The limit of nodes raised (document 02, item 3): which answers stay, over any two limits, the old one at most the new one. Proved in `proofs/Raised`. What reads
--- the limit has it as its first argument; the calls have `mostNodes` there. `block` reads none.
+-- The limit of nodes raised (document 02, item 3): which answers stay, over any two limits, the old one at most the new one. Proved in `proofs/Raised` and
+-- `proofs/Long`. What reads the limit has it as its first argument; the calls have `mostNodes` there. `block` reads none.
 use Prim.Native.Nat.{ℕ, _≤_, _<_}
 use mathlib.Core.Path.{_≡_}
 use mathlib.Core.Bool.{Bool}

@@ -86,7 +86,7 @@ spareStart = 10
 abbrev pub nodesInBlock : ℕ
 nodesInBlock = 31
 
--- the most nodes of a sheet (document 02, item 3)
+-- the most nodes of a sheet (document 02, item 3): what reads it takes it as its first argument, `limit`
 abbrev pub mostNodes : ℕ
 mostNodes = 1984
 
