@@ -1,8 +1,12 @@
 pub mod Proved
+pub mod Filled
 pub mod Rooms
 pub mod Believed
 pub mod Once
 pub mod Raised
+pub mod TextRefusals
+pub mod Texts
 pub mod Long
 pub mod StarredCases
 pub mod Applied
+pub mod AppliedTexts

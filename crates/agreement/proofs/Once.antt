@@ -16,6 +16,8 @@ use Rattle.cases.proofs.Unique.{check-once, tally-once}
 use Rattle.writer.proofs.Unique.{write-once}
 use Rattle.replies.proofs.Unique.{reach-once, one-case}
 use Rattle.trial.proofs.Unique.{reply-once, reply-into-once, digits-once, span-once}
+use Rattle.scan.proofs.Unique.{scan-once}
+use Rattle.building.proofs.Unique.{build-once}
 use Rattle.capi.specs.Codes.{replyCode}
 use Rattle.capi.proofs.ReplyLaws.{digits-code-once}
 use Rattle.agreement.specs.Statements.{OneAnswer}
@@ -69,4 +71,6 @@ one-between = record {
   lines = λ n x y h g. h .of [] ∙ sym (g .of []);
   reach = reach-once;
   numbers = λ v reply before x y h g. same-row v (one-case (h .case) (g .case)) (h .others ∙ sym (g .others));
+  scan = scan-once;
+  build = build-once;
 }

@@ -10,7 +10,6 @@ use native.Mathlib.Omega.{arith}
 use lib.IntN.{ℤ}
 use lib.ListN.{length}
 use denote.Ref.{RefT}
-use Rattle.lists.specs.First.{_otherwise_}
 use Rattle.lists.proofs.FirstLaws.{otherwise-none, otherwise-some}
 use Rattle.refusals.specs.declared.Refusal.{Refusal}
 use Rattle.refusals.specs.Rows.{Exactly}
@@ -30,12 +29,13 @@ use Rattle.cases.specs.declared.Tallied.{Tallied}
 use Rattle.cases.specs.Checks.{tryRefusal, checkRefusal, Checks}
 use Rattle.cases.specs.Tallies.{Tallies}
 use Rattle.wording.specs.Form.{Form}
-use Rattle.writer.specs.declared.Written.{Written}
+use Rattle.room.specs.declared.Written.{Written}
 use Rattle.writer.specs.Writes.{scriptRefusal, Writes}
+use Rattle.printer.specs.Prints.{textRefusal, Prints}
 use Rattle.trial.specs.declared.Replied.{Replied}
 use Rattle.trial.specs.Replies.{Replies, RepliesInto}
 use Rattle.trial.specs.Digits.{DigitsGiven, DigitsPart, DigitsSpan}
-use Rattle.capi.specs.Codes.{CheckCodes, ScriptCodes, ReplyCodes, DigitsCodes}
+use Rattle.capi.specs.Codes.{CheckCodes, ScriptCodes, TextCodes, ReplyCodes, DigitsCodes}
 use Rattle.answers.specs.declared.Request.{Request}
 use Rattle.answers.specs.declared.Request.the-variants.{Read, Script, Ask, Check, Tally}
 use Rattle.answers.specs.Answers.{scriptAnswer, answerText}
@@ -90,7 +90,7 @@ module _ (old new : ℕ) (l : old ≤ new) (s : List ℕ) where
       go (no h) = inl (edition-refuses new s h ∙ sym (edition-refuses old s h))
       go (yes h) = by-counts h (countsRight old s) refl (decLt old (nodeCount s))
 
-  refusal-raised : (refusalOf new s ≡ refusalOf old s) ⊎ OverLimit old s
+  pub refusal-raised : (refusalOf new s ≡ refusalOf old s) ⊎ OverLimit old s
   unfolding refusalOf
   refusal-raised = go early-raised (early old s) refl header-raised
     where
@@ -123,11 +123,21 @@ module _ (a b : ℕ) (s : List ℕ) (e : refusalOf a s ≡ refusalOf b s) where
   writes-as : {f : Form} {before after : List ℕ} {r : Written} → Writes a f s before r after → Writes b f s before r after
   writes-as {f} {before} h = record { answer = rw (← script-as f (length before)) (h .answer); room = rw (← script-as f (length before)) (h .room) }
 
+  text-as : (room : ℕ) → textRefusal a s room ≡ textRefusal b s room
+  unfolding textRefusal
+  text-as room = rw e
+
+  prints-as : {before after : List ℕ} {r : Written} → Prints a s before r after → Prints b s before r after
+  prints-as {before} h = rw (← text-as (length before)) h
+
   check-codes-as : {before after : List ℤ} {r : ℕ} → CheckCodes a s before r after → CheckCodes b s before r after
   check-codes-as {before} h = record { code = rw (← check-as (length before)) (h .code); room = rw (← check-as (length before)) (h .room) }
 
   script-codes-as : {f : Form} {before after : List ℕ} {r : ℕ} → ScriptCodes a f s before r after → ScriptCodes b f s before r after
   script-codes-as {f} {before} h = record { code = rw (← script-as f (length before)) (h .code); room = rw (← script-as f (length before)) (h .room) }
+
+  text-codes-as : {before after : List ℕ} {r : ℕ} → TextCodes a s before r after → TextCodes b s before r after
+  text-codes-as {before} h = record { code = rw (← text-as (length before)) (h .code); room = rw (← text-as (length before)) (h .room) }
 
   -- replies go by the tables of rows
   same-table : Exactly (sheetRows b s) (refusalOf a s)
@@ -186,6 +196,7 @@ module _ (old new : ℕ) (s : List ℕ) (e : refusalOf new s ≡ refusalOf old s
         check = λ before after r. (checks-as old new s d, checks-as new old s e);
         tally = λ r. (tallies-as old new s d, tallies-as new old s e);
         write-script = λ f before after r. (writes-as old new s d, writes-as new old s e);
+        print = λ before after r. (prints-as old new s d, prints-as new old s e);
         reply = λ reply r. (replies-as old new s d, replies-as new old s e);
         reply-into = λ reply before after r. (into-as old new s d, into-as new old s e);
         digits = λ reply part i. (digits-as old new s d, digits-as new old s e);
@@ -195,6 +206,7 @@ module _ (old new : ℕ) (s : List ℕ) (e : refusalOf new s ≡ refusalOf old s
         ragwashin-check = λ before after r. (check-codes-as old new s d, check-codes-as new old s e);
         ragwashin-tally = rw e;
         ragwashin-script = λ f before after r. (script-codes-as old new s d, script-codes-as new old s e);
+        ragwashin-text = λ before after r. (text-codes-as old new s d, text-codes-as new old s e);
         ragwashin-reply = λ reply r. (reply-codes-as old new s d, reply-codes-as new old s e);
         ragwashin-digits = λ reply i r. (digits-codes-as old new s d, digits-codes-as new old s e);
         answers = text-same;

@@ -1,48 +1,34 @@
 -- What the check and the writer leave in the room that was lent: `RoomKept`. Assumes nothing.
 use Prim.Native.Nat.{ℕ, _≤_}
 use mathlib.Core.Path.{_≡_, refl, sym, ap, _∙_}
-use mathlib.Core.Bool.{Bool, true, false, true≢false}
+use mathlib.Core.Bool.{Bool, true, true≢false}
 use mathlib.Core.List.{List, _++_}
-use mathlib.Core.Option.{Option, none, some, Option·none-ne-some, Option·some-ne-none}
+use mathlib.Core.Option.{Option, none, some, Option·none-ne-some}
 use native.Mathlib.Omega.{arith}
-use borrow.Author.Tests.{leb-true}
-use lib.Dec.{leb}
 use lib.IntN.{ℤ}
-use lib.ListN.{length, take, drop, length-append, length-drop}
-use lib.Seq.{take-at, drop-at}
-use Rattle.lists.specs.First.{_otherwise_}
+use lib.ListN.{length, drop, length-append, length-drop}
+use lib.Seq.{drop-at}
 use Rattle.meaning.specs.Cases.{firstFailure}
 use Rattle.meaning.proofs.Failures.{first-fails}
 use Rattle.layout.specs.Parts.{variableCount, ruleIn}
 use Rattle.layout.proofs.PartLaws.{variable-total}
 use Rattle.refusals.specs.declared.Refusal.{Refusal}
-use Rattle.refusals.specs.Said.{unless}
+use Rattle.refusals.proofs.AfterLaws.{passed}
 use Rattle.layout.specs.Limits.{mostNodes}
 use Rattle.reading.specs.Cascade.{refusalOf}
 use Rattle.cases.specs.declared.Checked.{Checked}
 use Rattle.cases.specs.Checks.{tryRefusal, checkRefusal, checkedSaid, Checks}
 use Rattle.wording.specs.Form.{Form}
 use Rattle.wording.specs.Script.{script}
-use Rattle.room.specs.Room.{over}
-use Rattle.writer.specs.declared.Written.{Written}
-use Rattle.writer.specs.Writes.{scriptRefusal, writtenSaid, Writes}
+use Rattle.room.specs.declared.Written.{Written}
+use Rattle.writer.specs.Writes.{scriptRefusal, Writes}
 use Rattle.agreement.specs.Statements as promise
 use Rattle.agreement.specs.Statements.{CheckRoom, ScriptRoom}
-
--- a room that is not refused for its size has it
-room-there : (o : Option Refusal) (need room p : ℕ) → (o otherwise unless (leb need room) 9 p) ≡ none → need ≤ room
-room-there none need room p e = by (leb need room) refl e
-  where
-    by : (b : Bool) → leb need room ≡ b → unless b 9 p ≡ none → need ≤ room
-    by true q d = leb-true need room q
-    by false q d = absurd (let z : _≡_ {A = ℕ} 0 1 = cc in omega arith)
-room-there (some r) need room p e = absurd (let z : _≡_ {A = ℕ} 0 1 = cc in omega arith)
+use Rattle.agreement.specs.Texts.{RoomOf}
+use Rattle.agreement.proofs.Filled.{room-of}
 
 -- x at the front of the room, and the rest as it was
 module _ {A : Type 0} (x room : List A) (n : ℕ) (e : length x ≡ n) (l : n ≤ length room) where
-  front : take n (x ++ drop n room) ≡ x
-  front = take-at x (drop n room) n e
-
   behind : drop n (x ++ drop n room) ≡ drop n room
   behind = drop-at x (drop n room) n e
 
@@ -72,7 +58,7 @@ check-room s before after r h = by (checkRefusal mostNodes s (length before)) re
     by none p none q = unchanged (h .room ∙ rw (p, q))
     by none p (some c) q =
         let n : length c ≡ v = first-fails (ruleIn s) q .0 .all ∙ variable-total s in
-        let l : v ≤ length before = room-there (tryRefusal mostNodes s) v (length before) v p in
+        let l : v ≤ length before = passed (tryRefusal mostNodes s) v (length before) 9 v p .1 in
         let e : after ≡ c ++ drop v before = h .room ∙ rw (p, q, n) in
         let said = other p q in
         record {
@@ -83,32 +69,11 @@ check-room s before after r h = by (checkRefusal mostNodes s (length before)) re
         }
 
 script-room : (f : Form) (s before after : List ℕ) (r : Written) → Writes mostNodes f s before r after → ScriptRoom f s before r after
-unfolding scriptRefusal over
-script-room f s before after r h = by (scriptRefusal mostNodes f s (length before)) refl
-  where
-    text : List ℕ
-    text = script f (ruleIn s)
-
-    by : (o : Option Refusal) → scriptRefusal mostNodes f s (length before) ≡ o → ScriptRoom f s before r after
-    by (some x) p =
-        let e : after ≡ before = h .room ∙ rw p in
-        let said : writtenSaid r ≡ (some x, 0) = h .answer ∙ rw p in
-        record {
-          refused = λ q d. e;
-          written = λ n d. absurd (Option·some-ne-none x (refusal-of (sym said) ∙ ap (λ (t : Written). writtenSaid t .0) d));
-          size = ap length e;
-        }
-    by none p =
-        let l : length text ≤ length before = room-there (refusalOf mostNodes s) (length text) (length before) (length text) p in
-        let e : after ≡ text ++ drop (length text) before = h .room ∙ rw p in
-        let said : writtenSaid r ≡ (none, length text) = h .answer ∙ rw p in
-        record {
-          refused = λ q d. absurd (Option·none-ne-some q (refusal-of (sym said) ∙ ap (λ (t : Written). writtenSaid t .0) d));
-          written = λ n d.
-              let m : length text ≡ n = sym (ap (λ (y : Option Refusal × ℕ). y .1) said) ∙ ap (λ (t : Written). writtenSaid t .1) d in
-              (ap (take n) (e ∙ rw m) ∙ front text before n m (omega arith), ap (drop n) (e ∙ rw m) ∙ behind text before n m (omega arith));
-          size = ap length e ∙ whole text before (length text) refl l;
-        }
+unfolding scriptRefusal
+script-room f s before after r h =
+    let t : List ℕ = script f (ruleIn s) in
+    let w : RoomOf t before r after = room-of (record { answer = h .answer; room = h .room }) (λ e. passed (refusalOf mostNodes s) (length t) (length before) 9 (length t) e .1) in
+    record { refused = w .refused; written = w .written; size = w .size }
 
 pub rooms-kept : promise.RoomKept
 rooms-kept s = (check-room s, λ f. script-room f s)

@@ -40,7 +40,7 @@ use Rattle.wording.specs.Sixteen.{hexDigit, hexText, literal, symbolText}
 use Rattle.wording.specs.Form.{sixteen}
 use Rattle.wording.specs.Script.{script}
 use Rattle.room.specs.Room.{over}
-use Rattle.writer.specs.declared.Written.the-variants.{Script}
+use Rattle.room.specs.declared.Written.the-variants.{Done}
 use Rattle.writer.specs.Writes.{scriptRefusal, Writes}
 use Rattle.agreement.specs.Starred.{StarredCase, EachMet, starredCases}
 
@@ -56,7 +56,7 @@ in-row n e = ap (λ (l : List (Option Refusal)). getD l n none) e
 
 -- ---- what the other calls answer of an accepted sheet
 module _ (s : List ℕ) (e : refusalOf mostNodes s ≡ none) where
-  writes-as : (room : List ℕ) {t : List ℕ} → script (sixteen false) (ruleIn s) ≡ t → leb (length t) (length room) ≡ true → Writes mostNodes (sixteen false) s room (Script (length t)) (over t room)
+  writes-as : (room : List ℕ) {t : List ℕ} → script (sixteen false) (ruleIn s) ≡ t → leb (length t) (length room) ≡ true → Writes mostNodes (sixteen false) s room (Done (length t)) (over t room)
   unfolding scriptRefusal
   writes-as room {t} p enough =
       let d : scriptRefusal mostNodes (sixteen false) s (length room) ≡ none = rw (e, p, enough) in

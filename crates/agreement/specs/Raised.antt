@@ -20,12 +20,13 @@ use Rattle.cases.specs.Checks.{Checks}
 use Rattle.cases.specs.Tallies.{Tallies}
 use Rattle.wording.specs.Form.{Form, sixteen}
 use Rattle.wording.specs.Script.{script}
-use Rattle.writer.specs.declared.Written.{Written}
+use Rattle.room.specs.declared.Written.{Written}
 use Rattle.writer.specs.Writes.{Writes}
+use Rattle.printer.specs.Prints.{Prints}
 use Rattle.trial.specs.declared.Replied.{Replied}
 use Rattle.trial.specs.Replies.{Replies, RepliesInto}
 use Rattle.trial.specs.Digits.{DigitsPart, DigitsSpan}
-use Rattle.capi.specs.Codes.{readCode, nameCode, CheckCodes, tallyCode, ScriptCodes, ReplyCodes, DigitsCodes}
+use Rattle.capi.specs.Codes.{readCode, nameCode, CheckCodes, tallyCode, ScriptCodes, TextCodes, ReplyCodes, DigitsCodes}
 use Rattle.answers.specs.declared.Request.{Request}
 use Rattle.answers.specs.Answers.{answerText}
 use Rattle.answers.specs.Replies.{WroteReply}
@@ -39,6 +40,7 @@ pub record SameAnswers (old new : ℕ) (s : List ℕ) : Type 0 where
   pub check : (before after : List ℤ) (r : Checked) → Checks old s before r after ↔ Checks new s before r after
   pub tally : (r : Tallied) → Tallies old s r ↔ Tallies new s r
   pub write-script : (f : Form) (before after : List ℕ) (r : Written) → Writes old f s before r after ↔ Writes new f s before r after
+  pub print : (before after : List ℕ) (r : Written) → Prints old s before r after ↔ Prints new s before r after
   pub reply : (reply : List ℕ) (r : Replied) → Replies old s reply r ↔ Replies new s reply r
   pub reply-into : (reply : List ℕ) (before after : List ℤ) (r : Replied) → RepliesInto old s reply before r after ↔ RepliesInto new s reply before r after
   pub digits : (reply part : RefT (List ℕ)) (variable : ℕ) → DigitsPart old s reply variable part ↔ DigitsPart new s reply variable part
@@ -49,6 +51,7 @@ pub record SameAnswers (old new : ℕ) (s : List ℕ) : Type 0 where
   pub ragwashin-check : (before after : List ℤ) (r : ℕ) → CheckCodes old s before r after ↔ CheckCodes new s before r after
   pub ragwashin-tally : tallyCode new s ≡ tallyCode old s
   pub ragwashin-script : (f : Form) (before after : List ℕ) (r : ℕ) → ScriptCodes old f s before r after ↔ ScriptCodes new f s before r after
+  pub ragwashin-text : (before after : List ℕ) (r : ℕ) → TextCodes old s before r after ↔ TextCodes new s before r after
   pub ragwashin-reply : (reply : List ℕ) (r : ℕ) → ReplyCodes old s reply r ↔ ReplyCodes new s reply r
   pub ragwashin-digits : (reply : List ℕ) (variable r : ℕ) → DigitsCodes old s reply variable r ↔ DigitsCodes new s reply variable r
   -- the program

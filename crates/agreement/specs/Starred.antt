@@ -25,8 +25,8 @@ use Rattle.cases.specs.declared.Tallied.{Tallied}
 use Rattle.cases.specs.Checks.{Checks}
 use Rattle.cases.specs.Tallies.{Tallies}
 use Rattle.wording.specs.Form.{sixteen}
-use Rattle.writer.specs.declared.Written.{Written}
-use Rattle.writer.specs.declared.Written.the-variants.{Script}
+use Rattle.room.specs.declared.Written.{Written}
+use Rattle.room.specs.declared.Written.the-variants.{Done}
 use Rattle.writer.specs.Writes.{Writes}
 
 -- ---- bytes from a text: two hexadecimal digits each, blanks passed over
@@ -106,15 +106,15 @@ starredCases =
     -- the worked check: byte 0 is 1, byte 509 is 255 and the rest zero, stored 13 FC; the check is right, so what is wrong is the node count
     record { sheet = hex "01" ++ (replicate 508 0 ++ hex "ff 13fc"); claims = refuses 4 0 ∷ [] }
     -- 1: sheet A
-    ∷ record { sheet = sheetA; claims = reads Accepted ∷ checks (pos 7 ∷ pos 8 ∷ pos 9 ∷ []) Fails (pos 0 ∷ pos 1 ∷ pos 9 ∷ []) ∷ counts 2 2 ∷ writes 235 (Script 234) (scriptA ++ hex "00") ∷ [] }
+    ∷ record { sheet = sheetA; claims = reads Accepted ∷ checks (pos 7 ∷ pos 8 ∷ pos 9 ∷ []) Fails (pos 0 ∷ pos 1 ∷ pos 9 ∷ []) ∷ counts 2 2 ∷ writes 235 (Done 234) (scriptA ++ hex "00") ∷ [] }
     -- 2: no variables, the goal is true
     ∷ record { sheet = sheetFrom "0100 0100" [] "0500" ("01" ∷ []) "0300"; claims = checks (pos 7 ∷ []) Holds (pos 7 ∷ []) ∷ counts 1 0 ∷ [] }
     -- 3: the goal is false
     ∷ record { sheet = sheetFrom "0100 0100" [] "0500" ("02" ∷ []) "0400"; claims = checks (pos 7 ∷ []) Fails (pos 7 ∷ []) ∷ counts 0 1 ∷ [] }
     -- 5: the constant -1
-    ∷ record { sheet = sheetFrom "0100 0300" [] "0b00" ("1000 0000 0000 0000 ffff" ∷ "1000 0000 0000 0000 ffff" ∷ "0800 0000 0100" ∷ []) "0948"; claims = writes 73 (Script 72) (ascii "(set-logic QF_UFBV)\n(assert (not (= #xffff #xffff)))\n(check-sat)\n(exit)\n" ++ hex "00") ∷ [] }
+    ∷ record { sheet = sheetFrom "0100 0300" [] "0b00" ("1000 0000 0000 0000 ffff" ∷ "1000 0000 0000 0000 ffff" ∷ "0800 0000 0100" ∷ []) "0948"; claims = writes 73 (Done 72) (ascii "(set-logic QF_UFBV)\n(assert (not (= #xffff #xffff)))\n(check-sat)\n(exit)\n" ++ hex "00") ∷ [] }
     -- 6: the constant -32,768
-    ∷ record { sheet = sheetFrom "0100 0300" [] "0b00" ("1000 0000 0000 0000 0080" ∷ "1000 0000 0000 0000 0080" ∷ "0800 0000 0100" ∷ []) "4f14"; claims = writes 73 (Script 72) (ascii "(set-logic QF_UFBV)\n(assert (not (= #x8000 #x8000)))\n(check-sat)\n(exit)\n" ++ hex "00") ∷ [] }
+    ∷ record { sheet = sheetFrom "0100 0300" [] "0b00" ("1000 0000 0000 0000 0080" ∷ "1000 0000 0000 0000 0080" ∷ "0800 0000 0100" ∷ []) "4f14"; claims = writes 73 (Done 72) (ascii "(set-logic QF_UFBV)\n(assert (not (= #x8000 #x8000)))\n(check-sat)\n(exit)\n" ++ hex "00") ∷ [] }
     -- 7: 16,384 + 16,383
     ∷ record { sheet = sheetFrom "0100 0500" [] "1100" ("1000 0000 0000 0000 0040" ∷ "1000 0000 0000 0000 ff3f" ∷ "1300 0000 0100" ∷ "1000 0000 0000 0000 ff7f" ∷ "0800 0200 0300" ∷ []) "8181"; claims = reads Accepted ∷ finds 2 (pos 32767 ⋯ pos 32767) ∷ [] }
     -- 8: 16,384 + 16,384

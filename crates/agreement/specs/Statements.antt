@@ -54,8 +54,8 @@ use Rattle.wording.specs.Binary.{inBits}
 use Rattle.wording.specs.Script.{script}
 use Rattle.forms.specs.Readable.{Readable}
 use Rattle.forms.specs.Width.{WidthHolds}
-use Rattle.writer.specs.declared.Written.{Written}
-use Rattle.writer.specs.declared.Written.the-variants.{Script, Refused}
+use Rattle.room.specs.declared.Written.{Written}
+use Rattle.room.specs.declared.Written.the-variants.{Done, Refused}
 use Rattle.writer.specs.Writes.{scriptRefusal, enoughRoom, Writes}
 use Rattle.writer.specs.Rows.{scriptRows}
 use Rattle.replies.specs.Says.{SpellsSetting, SpellsCase}
@@ -135,7 +135,7 @@ pub record CheckRoom (s : List ℕ) (before : List ℤ) (r : Checked) (after : L
 -- only a script that is written changes the room: n bytes, which are the script, and nothing past them
 pub record ScriptRoom (f : Form) (s before : List ℕ) (r : Written) (after : List ℕ) : Type 0 where
   pub refused : (q : Refusal) → r ≡ Refused q → after ≡ before
-  pub written : (n : ℕ) → r ≡ Script n → (take n after ≡ script f (ruleIn s)) × (drop n after ≡ drop n before)
+  pub written : (n : ℕ) → r ≡ Done n → (take n after ≡ script f (ruleIn s)) × (drop n after ≡ drop n before)
   pub size : length after ≡ length before
 
 abbrev pub RoomKept : Type 0

@@ -35,9 +35,10 @@ use Rattle.wording.specs.Form.{sixteen}
 use Rattle.wording.specs.Script.{script}
 use Rattle.room.specs.Room.{within, over, Wrote}
 use Rattle.room.proofs.RoomLaws.{wrote-as}
-use Rattle.writer.specs.declared.Written.{Written}
-use Rattle.writer.specs.declared.Written.the-variants.{Script as written, Refused as writeRefused}
-use Rattle.writer.specs.Writes.{enoughRoom, scriptRefusal, writtenSaid, scriptVerdict, scriptRoom, Writes}
+use Rattle.room.specs.declared.Written.{Written}
+use Rattle.room.specs.declared.Written.the-variants.{Done as written, Refused as writeRefused}
+use Rattle.room.specs.Written.{writtenSaid, writtenVerdict, writtenRoom, Fills}
+use Rattle.writer.specs.Writes.{enoughRoom, scriptRefusal, Writes}
 use Rattle.writer.proofs.ScriptLaws.{script-short}
 use Rattle.phrases.specs.Phrases.{numbersLine, refusalLine}
 use Rattle.phrases.specs.Pieces.{Settled, failsLine}
@@ -70,6 +71,22 @@ refused : {o : Option Refusal} (t : List ℕ) {r : Refusal} → o ≡ some r →
 unfolding answered
 refused t e = rw e
 
+-- a call that writes the text t to the room's front, unless it refuses
+module _ {o : Option Refusal} {t before after : List ℕ} {a : Written} (w : Fills o t before a after) where
+  pub filled-written : {n : ℕ} → a ≡ written n → Wrote (answered o t) before after 0 n
+  filled-written {n} d = go o refl (sym (ap writtenSaid d) ∙ w .answer) (w .room)
+    where
+      go : (x : Option Refusal) → o ≡ x → (none, n) ≡ writtenVerdict x t → after ≡ writtenRoom x t before → Wrote (answered o t) before after 0 n
+      go none e p g = wrote-as (at-front (ap (λ (y : Option Refusal × ℕ). y .1) p) g) (told e)
+      go (some r) e p g = absurd (Option·none-ne-some r (ap refusalIn p))
+
+  pub filled-refused : {r : Refusal} → a ≡ writeRefused r → (after ≡ before) × (refusalLine r ≡ answered o t)
+  filled-refused {r} d = go o refl (sym (ap writtenSaid d) ∙ w .answer) (w .room)
+    where
+      go : (x : Option Refusal) → o ≡ x → (some r, 0) ≡ writtenVerdict x t → after ≡ writtenRoom x t before → (after ≡ before) × (refusalLine r ≡ answered o t)
+      go none e p g = absurd (Option·some-ne-none r (ap refusalIn p))
+      go (some q) e p g = (g, refused _ (e ∙ sym (ap refusalIn p)))
+
 -- the same text over a room that is the same
 pub wrote-from : {t u before same after : List ℕ} {at r : ℕ} → (same ≡ before) × (t ≡ u) → Wrote t same after at r → Wrote u before after at r
 wrote-from e w = rw (← e .0, ← e .1) w
@@ -98,21 +115,16 @@ module _ (s : List ℕ) where
         go (some r) e = otherwise-some _ e ∙ sym e
         go none e = passes (length (script (sixteen models) (ruleIn s))) (length before) 9 (length (script (sixteen models) (ruleIn s))) e (omega (arith, script-short models s e)) ∙ sym e
 
+    script-fills : Fills (refusalOf mostNodes s) (script (sixteen models) (ruleIn s)) before a after
+    script-fills = record { answer = w .answer ∙ rw script-refusal; room = w .room ∙ rw script-refusal }
+
     pub script-written : {n : ℕ} → a ≡ written n → Wrote (scriptAnswer mostNodes (sixteen models) s) before after 0 n
     unfolding scriptAnswer
-    script-written {n} d = go (refusalOf mostNodes s) refl (sym (ap writtenSaid d) ∙ w .answer ∙ rw script-refusal) (w .room ∙ rw script-refusal)
-      where
-        go : (o : Option Refusal) → refusalOf mostNodes s ≡ o → (none, n) ≡ scriptVerdict o (script (sixteen models) (ruleIn s)) → after ≡ scriptRoom o (script (sixteen models) (ruleIn s)) before → Wrote (answered (refusalOf mostNodes s) (script (sixteen models) (ruleIn s))) before after 0 n
-        go none e p g = wrote-as (at-front (ap (λ (x : Option Refusal × ℕ). x .1) p) g) (told e)
-        go (some r) e p g = absurd (Option·none-ne-some r (ap refusalIn p))
+    script-written d = filled-written script-fills d
 
     pub script-refused : {r : Refusal} → a ≡ writeRefused r → (after ≡ before) × (refusalLine r ≡ scriptAnswer mostNodes (sixteen models) s)
     unfolding scriptAnswer
-    script-refused {r} d = go (refusalOf mostNodes s) refl (sym (ap writtenSaid d) ∙ w .answer ∙ rw script-refusal) (w .room ∙ rw script-refusal)
-      where
-        go : (o : Option Refusal) → refusalOf mostNodes s ≡ o → (some r, 0) ≡ scriptVerdict o (script (sixteen models) (ruleIn s)) → after ≡ scriptRoom o (script (sixteen models) (ruleIn s)) before → (after ≡ before) × (refusalLine r ≡ answered (refusalOf mostNodes s) (script (sixteen models) (ruleIn s)))
-        go none e p g = absurd (Option·some-ne-none r (ap refusalIn p))
-        go (some q) e p g = (g, refused _ (e ∙ sym (ap refusalIn p)))
+    script-refused d = filled-refused script-fills d
 
   -- the two requests for a script
   pub script-request : {before after : List ℕ} {n : ℕ} → Wrote (scriptAnswer mostNodes (sixteen false) s) before after 0 n → Wrote (answerText mostNodes Script s) before after 0 n

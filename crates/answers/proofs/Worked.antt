@@ -31,7 +31,7 @@ use Rattle.wording.specs.Sixteen.{hexDigit, hexText, literal, symbolText}
 use Rattle.wording.specs.Script.{script}
 use Rattle.numbers.specs.Decimal.{decimalIn, decimal, signed}
 use Rattle.layout.specs.Limits.{mostNodes}
-use Rattle.phrases.specs.Phrases.{numbersLine, refusalLine, nameValue, nameValues}
+use Rattle.phrases.specs.Phrases.{numbersText, numbersLine, refusalLine, nameValue, nameValues}
 use Rattle.answers.specs.declared.Request.{Request}
 use Rattle.answers.specs.declared.Request.the-variants.{Read, Script, Ask, Check, Tally}
 use Rattle.answers.specs.Answers.{answered, failing, checkLine, scriptAnswer, answerText}
@@ -70,5 +70,5 @@ table =
     ∷ []
 
 pub answers : map (λ (r : Row). answerText mostNodes (r .0) (r .1)) table ≡ map (λ (r : Row). r .2) table
-unfolding value sizeOf casesOf holds failures firstFailure held failed treeAt allBelow below course first enc dec isNarrow hasNarrowEnds leastOf greatestOf find kindOf weighted checkOf sealed blockRight startAt ofTree ofNode sheetOf lengthRight early zeros countsRight tailClear outsideClear header isLetter isNameByte allNameBytes nameRight sameBytes variableRight fresh findingOf rightlyPlaced typed nodeRefusal nodes refusalOf hexDigit hexText literal symbolText script decimalIn decimal signed numbersLine refusalLine answered nameValue nameValues failing checkLine scriptAnswer answerText
+unfolding value sizeOf casesOf holds failures firstFailure held failed treeAt allBelow below course first enc dec isNarrow hasNarrowEnds leastOf greatestOf find kindOf weighted checkOf sealed blockRight startAt ofTree ofNode sheetOf lengthRight early zeros countsRight tailClear outsideClear header isLetter isNameByte allNameBytes nameRight sameBytes variableRight fresh findingOf rightlyPlaced typed nodeRefusal nodes refusalOf hexDigit hexText literal symbolText script decimalIn decimal signed numbersText numbersLine refusalLine answered nameValue nameValues failing checkLine scriptAnswer answerText
 answers = refl

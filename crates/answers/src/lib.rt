@@ -12,9 +12,9 @@ ghost use Rattle.answers.specs.declared.Request.the-variants.{Read, Chec
 use cases::Checked;
 use layout::MOST_VARIABLES;
 use refusals::Reading;
+use room::Written;
 use trial::Replied;
 use wording::ScriptForm;
-use writer::Written;
 
 // What is asked of a sheet.
 pub enum Request {
@@ -42,7 +42,7 @@ fn script_answer(sheet: &[u8], form: ScriptForm, room: &mut [u8]) -> usize
     ensures { λ r. ⌜ Wrote (scriptAnswer mostNodes (formOf form) (now (sheet .entry))) (now (room .entry)) (now (room .exit)) 0 r ⌝ }
 {
     match writer::write_script(sheet, form, room) {
-        Written::Script(size) => size,
+        Written::Done(size) => size,
         Written::Refused(refusal) => phrases::refused_line(room, refusal),
     }
 }

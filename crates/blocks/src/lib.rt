@@ -55,7 +55,7 @@ fn weighed_sum(content: &[u8]) -> u32
 }
 
 // The check of block k with this content.
-fn check_of(k: usize, content: &[u8]) -> usize
+pub fn check_of(k: usize, content: &[u8]) -> usize
     requires { ⌜ (blockBytes * k < 2 ^ 64) × (length (now content) ≡ contentBytes) ⌝ }
     ensures { λ r. ⌜ r ≡ checkOf k (now (content .entry)) ⌝ }
 {

@@ -1,5 +1,5 @@
 -- The numbers of the C interface tell the answers, and where the returned parts lie. Assumes nothing.
-use Prim.Native.Nat.{ℕ, zero, suc, _+_, _*_, _/_, _%_, _^_, _≤_, _<_}
+use Prim.Native.Nat.{ℕ, zero, suc, _+_, _-_, _*_, _/_, _%_, _^_, _≤_, _<_}
 use mathlib.Core.Path.{_≡_, refl, sym, ap, ap₂, _∙_}
 use mathlib.Core.List.{List}
 use mathlib.Core.Option.{Option, none, some}
@@ -23,7 +23,17 @@ use Rattle.reading.specs.Name.{NameGiven, NamePart}
 use Rattle.reading.proofs.Bounds.{refusal-small}
 use Rattle.reading.proofs.NameLaws.{name-decided, given-name}
 use Rattle.cases.specs.Tallies.{unlessRefused}
-use Rattle.capi.specs.Codes.{refusalCode, codeOf, saidBy, codeSaid, readCode, nameCode, blockCode}
+use Rattle.capi.specs.Codes.{refusalCode, codeOf, saidBy, codeSaid, tellable, readCode, nameCode, blockCode}
+
+-- ---- a place that 48 bits hold
+pub low-place : (place : ℕ) → place < 2 ^ 48 → (place ≡ tellable place) × (place < 2 ^ 48)
+low-place place l = (sym (rw (lt-ltb place (2 ^ 48) l)), l)
+
+pub high-place : (place : ℕ) → 2 ^ 48 ≤ place → (2 ^ 48 - 1 ≡ tellable place) × (2 ^ 48 - 1 < 2 ^ 48)
+high-place place l = (sym (rw (le-ltb place (2 ^ 48) l)), omega arith)
+
+pub tellable-small : (place : ℕ) → tellable place < 2 ^ 48
+tellable-small place = elim (decLt place (2 ^ 48)) [ yes l ↦ rw (sym (low-place place l .0)) l | no l ↦ rw (sym (high-place place (omega arith) .0)) (omega arith) ]
 
 -- ---- what a code says
 said-refused : (n p : ℕ) → 1 ≤ n → saidBy n p ≡ (some (record { number = n; place = p }), 0)

@@ -1,11 +1,10 @@
 -- The numbers that `reply` and `digits` give in C tell their answers. Assumes nothing.
-use Prim.Native.Nat.{ℕ, _+_, _-_, _*_, _/_, _%_, _^_, _≤_, _<_}
+use Prim.Native.Nat.{ℕ, _+_, _*_, _/_, _%_, _^_, _≤_, _<_}
 use mathlib.Core.Path.{_≡_, refl, sym, ap, ap₂, _∙_}
 use mathlib.Core.List.{List}
 use mathlib.Core.Option.{Option, none, some}
 use native.Mathlib.Decide.{decLt}
 use native.Mathlib.Omega.{arith}
-use borrow.Author.Tests.{lt-ltb, le-ltb}
 use denote.Ref.{RefT}
 use lib.ListN.{length}
 use Rattle.lists.proofs.PartLaws.{part-size}
@@ -20,17 +19,7 @@ use Rattle.trial.specs.Digits.{DigitsGiven, DigitsPart, DigitsSpan}
 use Rattle.trial.proofs.Exact.{reply-near}
 use Rattle.trial.proofs.GivenLaws.{given-decided, digits-few, given-inside}
 use Rattle.capi.specs.Codes.{refusalCode, codeSaid, tellable, replyCode, ReplyCodes, DigitsCodes}
-use Rattle.capi.proofs.CodeLaws.{code-tells}
-
--- ---- a place that 48 bits hold
-pub low-place : (place : ℕ) → place < 2 ^ 48 → (place ≡ tellable place) × (place < 2 ^ 48)
-low-place place l = (sym (rw (lt-ltb place (2 ^ 48) l)), l)
-
-pub high-place : (place : ℕ) → 2 ^ 48 ≤ place → (2 ^ 48 - 1 ≡ tellable place) × (2 ^ 48 - 1 < 2 ^ 48)
-high-place place l = (sym (rw (le-ltb place (2 ^ 48) l)), omega arith)
-
-tellable-small : (place : ℕ) → tellable place < 2 ^ 48
-tellable-small place = elim (decLt place (2 ^ 48)) [ yes l ↦ rw (sym (low-place place l .0)) l | no l ↦ rw (sym (high-place place (omega arith) .0)) (omega arith) ]
+use Rattle.capi.proofs.CodeLaws.{tellable-small, code-tells}
 
 -- ---- reply
 module _ {s reply : List ℕ} {a : Replied} (h : Replies mostNodes s reply a) where

@@ -1,4 +1,4 @@
--- The numbers that the writer of scripts gives in C tell its answers, with models and without. Assumes nothing.
+-- The numbers that calls which write bytes give in C; those of the writer of scripts tell its answers, with models and without. Assumes nothing.
 use Prim.Native.Nat.{ℕ, _^_, _≤_, _<_}
 use mathlib.Core.Path.{_≡_, refl, sym, ap, _∙_}
 use mathlib.Core.Bool.{Bool}
@@ -14,22 +14,28 @@ use Rattle.reading.specs.Cascade.{refusalOf}
 use Rattle.cases.specs.Tallies.{unlessRefused}
 use Rattle.wording.specs.Form.{Form, sixteen}
 use Rattle.wording.specs.Script.{script}
-use Rattle.writer.specs.declared.Written.{Written}
-use Rattle.writer.specs.declared.Written.the-variants.{Refused}
-use Rattle.writer.specs.Writes.{enoughRoom, scriptRefusal, writtenSaid, scriptVerdict, Writes}
+use Rattle.room.specs.declared.Written.{Written}
+use Rattle.room.specs.declared.Written.the-variants.{Done, Refused}
+use Rattle.room.specs.Written.{writtenSaid, writtenVerdict}
+use Rattle.writer.specs.Writes.{scriptRefusal, Writes}
 use Rattle.writer.proofs.ScriptLaws.{script-short}
 use Rattle.writer.proofs.Exact.{script-small}
-use Rattle.capi.specs.Codes.{codeOf, codeSaid, ScriptCodes}
-use Rattle.capi.proofs.CodeLaws.{code-tells}
+use Rattle.capi.specs.Codes.{refusalCode, codeOf, codeSaid, tellable, writtenCode, ScriptCodes}
+use Rattle.capi.proofs.CodeLaws.{low-place, code-tells}
 
--- the code of an answer, and that of what decides it
-abbrev writtenCode : Option Refusal × ℕ → ℕ
-writtenCode v = codeOf (v .0) (v .1)
+-- ---- the code of an answer, and that of what decides it, where 48 bits hold the refusal's place
+pub code-decided : (a : Written) (o : Option Refusal) (t : List ℕ) → writtenSaid a ≡ writtenVerdict o t → ((r : Refusal) → o ≡ some r → r .place < 2 ^ 48) → writtenCode a ≡ codeOf o (length t)
+code-decided (Done n) none t e small = ap (λ (x : Option Refusal × ℕ). x .1) e
+code-decided (Done n) (some q) t e small = absurd (let z : _≡_ {A = ℕ} 0 1 = cc (ap (λ (x : Option Refusal × ℕ). x .0) e) in omega arith)
+code-decided (Refused r) none t e small = absurd (let z : _≡_ {A = ℕ} 0 1 = cc (ap (λ (x : Option Refusal × ℕ). x .0) e) in omega arith)
+code-decided (Refused r) (some q) t e small =
+    let d : r ≡ q = cc (ap (λ (x : Option Refusal × ℕ). x .0) e) in
+    rw (d, ← low-place (q .place) (small q refl) .0)
 
-written-code-by : (o : Option Refusal) (t : List ℕ) → writtenCode (scriptVerdict o t) ≡ codeOf o (length t)
-written-code-by none t = refl
-written-code-by (some r) t = refl
+pub refused-code : {a : Written} {r : Refusal} {p n : ℕ} → a ≡ Refused r → p ≡ tellable (r .place) → n ≡ refusalCode (record { number = r .number; place = p }) → n ≡ writtenCode a
+refused-code {a} {r} d e f = f ∙ ap (λ (p : ℕ). refusalCode (record { number = r .number; place = p })) e ∙ ap writtenCode (sym d)
 
+-- ---- scripts
 module _ (models : Bool) (s : List ℕ) where
   abbrev form : Form
   form = sixteen models
@@ -45,16 +51,5 @@ module _ (models : Bool) (s : List ℕ) where
       answered : scriptRefusal mostNodes form s (length before) ≡ none → length (script form (ruleIn s)) < 2 ^ 48
       answered e = omega (arith, script-short models s (passed (refusalOf mostNodes s) (length (script form (ruleIn s))) (length before) 9 (length (script form (ruleIn s))) e .0))
 
-  module _ {before after : List ℕ} {a : Written} (c : Writes mostNodes form s before a after) where
-    answer-is : {v : Option Refusal × ℕ} → writtenSaid a ≡ v → scriptVerdict (scriptRefusal mostNodes form s (length before)) (script form (ruleIn s)) ≡ v
-    answer-is e = sym (c .answer) ∙ e
-
-    pub written-code : {n : ℕ} {v : Option Refusal × ℕ} → writtenSaid a ≡ v → n ≡ writtenCode v → ScriptCodes mostNodes form s before n after
-    written-code e d = record { code = d ∙ ap writtenCode (sym (answer-is e)) ∙ written-code-by (scriptRefusal mostNodes form s (length before)) (script form (ruleIn s)); room = c .room }
-
-    pub written-place : {r : Refusal} → a ≡ Refused r → r .place ≤ enoughRoom
-    written-place {r} d = go (scriptRefusal mostNodes form s (length before)) refl (answer-is (ap writtenSaid d))
-      where
-        go : (o : Option Refusal) → scriptRefusal mostNodes form s (length before) ≡ o → scriptVerdict o (script form (ruleIn s)) ≡ (some r, 0) → r .place ≤ enoughRoom
-        go none q w = absurd (let z : _≡_ {A = ℕ} 0 1 = cc (ap (λ (p : Option Refusal × ℕ). p .0) w) in omega arith)
-        go (some t) q w = script-small models s (length before) (q ∙ ap (λ (p : Option Refusal × ℕ). p .0) w) .low-place
+  pub script-code : {before after : List ℕ} {a : Written} {n : ℕ} → Writes mostNodes form s before a after → n ≡ writtenCode a → ScriptCodes mostNodes form s before n after
+  script-code {before} {after} {a} c e = record { code = e ∙ code-decided a (scriptRefusal mostNodes form s (length before)) (script form (ruleIn s)) (c .answer) (λ r d. omega (arith, script-small models s (length before) d .low-place)); room = c .room }

@@ -17,7 +17,13 @@ use Rattle.cases.specs.Checks.{tryRefusal, checkRefusal, isSome, roomAfter}
 use Rattle.cases.specs.Tallies.{unlessRefused}
 use Rattle.wording.specs.Form.{Form}
 use Rattle.wording.specs.Script.{script}
-use Rattle.writer.specs.Writes.{scriptRefusal, scriptRoom}
+use Rattle.room.specs.declared.Written.{Written}
+use Rattle.room.specs.declared.Written.the-variants.{Done, Refused as Written·Refused}
+use Rattle.room.specs.Written.{writtenRoom}
+use Rattle.texts.specs.Plain.{textOf}
+use Rattle.maker.specs.Makes.{Makes}
+use Rattle.printer.specs.Prints.{textRefusal}
+use Rattle.writer.specs.Writes.{scriptRefusal}
 use Rattle.digits.specs.Hashes.{digitsPlace, digitsSize}
 use Rattle.trial.specs.declared.Replied.{Replied}
 use Rattle.trial.specs.declared.Replied.the-variants.{Unsat, Fails, Refused}
@@ -71,7 +77,7 @@ tallyCode limit s = codeOf (tryRefusal limit s) (countsCode (held (ruleIn s)) (f
 -- a script: the bytes written, and the room as `write_script` leaves it
 pub record ScriptCodes (limit : ℕ) (f : Form) (s before : List ℕ) (r : ℕ) (after : List ℕ) : Type 0 where
   pub code : r ≡ codeOf (scriptRefusal limit f s (length before)) (length (script f (ruleIn s)))
-  pub room : after ≡ scriptRoom (scriptRefusal limit f s (length before)) (script f (ruleIn s)) before
+  pub room : after ≡ writtenRoom (scriptRefusal limit f s (length before)) (script f (ruleIn s)) before
 
 -- a place in a reply that 48 bits don't hold is told as the greatest that they do
 abbrev pub tellable : ℕ → ℕ
@@ -92,3 +98,17 @@ pub record ReplyCodes (limit : ℕ) (s reply : List ℕ) (r : ℕ) : Type 0 wher
 pub record DigitsCodes (limit : ℕ) (s reply : List ℕ) (i r : ℕ) : Type 0 where
   pub given : DigitsGiven limit s reply i → digitsPlace i reply < 2 ^ 48 → r ≡ digitsPlace i reply * 65536 + digitsSize i reply
   pub absent : (DigitsGiven limit s reply i → digitsPlace i reply < 2 ^ 48 → ⊥) → r ≡ 0
+
+-- what `make` and `print` answer, as one number: the bytes written, or the refusal
+abbrev pub writtenCode : Written → ℕ
+writtenCode (Done n) = n
+writtenCode (Written·Refused r) = refusalCode (record { number = r .number; place = tellable (r .place) })
+
+pub record MakeCodes (limit : ℕ) (text before : List ℕ) (r : ℕ) (after : List ℕ) : Type 0 where
+  pub answer : Written
+  pub makes : Makes limit text before answer after
+  pub code : r ≡ writtenCode answer
+
+pub record TextCodes (limit : ℕ) (s before : List ℕ) (r : ℕ) (after : List ℕ) : Type 0 where
+  pub code : r ≡ codeOf (textRefusal limit s (length before)) (length (textOf (ruleIn s)))
+  pub room : after ≡ writtenRoom (textRefusal limit s (length before)) (textOf (ruleIn s)) before

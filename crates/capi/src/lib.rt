@@ -4,15 +4,15 @@ ghost use Prim.Native.Nat.{_<_, _^_};
 ghost use mathlib.Core.Bool.{true, false};
 ghost use Rattle.layout.specs.Limits.{mostNodes};
 ghost use Rattle.wording.specs.Form.{sixteen, formOf};
-ghost use Rattle.capi.specs.Codes.{readCode, nameCode, blockCode, refusalCode, CheckCodes, tallyCode, ScriptCodes, tellable, ReplyCodes, DigitsCodes};
+ghost use Rattle.capi.specs.Codes.{readCode, nameCode, blockCode, refusalCode, CheckCodes, tallyCode, tellable, writtenCode, ScriptCodes, MakeCodes, TextCodes, ReplyCodes, DigitsCodes};
 use cases::Checked;
 use layout::NAME_START;
 use numbers::VariableNumber;
 use refusals::Reading;
 use refusals::Refusal;
+use room::Written;
 use trial::Replied;
 use wording::ScriptForm;
-use writer::Written;
 
 const NUMBER: u64 = 281474976710656;
 
@@ -83,15 +83,34 @@ pub extern "C" fn ragwashin_tally(sheet: &[u8]) -> u64
     }
 }
 
+// A place that 48 bits hold: itself, or the greatest.
+fn told_place(place: usize) -> usize
+    ensures { λ r. ⌜ (r ≡ tellable place) × (r < 2 ^ 48) ⌝ }
+{
+    if place < NUMBER as usize {
+        return place;
+    }
+    NUMBER as usize - 1
+}
+
+// What a call that writes bytes answers, as one number.
+fn written_code(written: Written) -> u64
+    ensures { λ r. ⌜ r ≡ writtenCode written ⌝ }
+{
+    match written {
+        Written::Done(size) => size as u64,
+        Written::Refused(refusal) => refusal_code(Refusal {
+            number: refusal.number,
+            place: told_place(refusal.place),
+        }),
+    }
+}
+
 // What the writer answers, as one number.
 fn script_code(sheet: &[u8], form: ScriptForm, room: &mut [u8]) -> u64
     ensures { λ r. ⌜ ScriptCodes mostNodes (formOf form) (now (sheet .entry)) (now (room .entry)) r (now (room .exit)) ⌝ }
 {
-    let written = writer::write_script(sheet, form, room);
-    match written {
-        Written::Script(size) => size as u64,
-        Written::Refused(refusal) => refusal_code(refusal),
-    }
+    written_code(writer::write_script(sheet, form, room))
 }
 
 #[no_mangle]
@@ -108,14 +127,18 @@ pub extern "C" fn ragwashin_ask(sheet: &[u8], room: &mut [u8]) -> u64
     script_code(sheet, ScriptForm { models: true }, room)
 }
 
-// A place that 48 bits hold: itself, or the greatest.
-fn told_place(place: usize) -> usize
-    ensures { λ r. ⌜ (r ≡ tellable place) × (r < 2 ^ 48) ⌝ }
+#[no_mangle]
+pub extern "C" fn ragwashin_make(text: &[u8], room: &mut [u8]) -> u64
+    ensures { λ r. ⌜ MakeCodes mostNodes (now (text .entry)) (now (room .entry)) r (now (room .exit)) ⌝ }
 {
-    if place < NUMBER as usize {
-        return place;
-    }
-    NUMBER as usize - 1
+    written_code(maker::make(text, room))
+}
+
+#[no_mangle]
+pub extern "C" fn ragwashin_text(sheet: &[u8], room: &mut [u8]) -> u64
+    ensures { λ r. ⌜ TextCodes mostNodes (now (sheet .entry)) (now (room .entry)) r (now (room .exit)) ⌝ }
+{
+    written_code(printer::print(sheet, room))
 }
 
 #[no_mangle]

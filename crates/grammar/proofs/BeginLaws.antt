@@ -1,7 +1,7 @@
 -- Laws of how far bytes begin a member: what begins one does so with fewer bytes too; there is one place, and none where the bytes are a member. Assumes nothing.
 use Prim.Native.Nat.{ℕ, suc, _≤_, _<_}
 use mathlib.Core.Path.{_≡_, sym, ap, subst, _∙_}
-use mathlib.Core.Logic.{⊎-elim, _⊎_, inl, inr}
+use mathlib.Core.Logic.{_↔_, ⊎-elim, _⊎_, inl, inr}
 use mathlib.Core.List.{List, [], _++_, append-assoc, append-nil}
 use native.Mathlib.Decide.{decLt}
 use native.Mathlib.Omega.{arith}
@@ -51,3 +51,22 @@ module _ (Member : List ℕ → Type 0) where
       (λ l. absurd (begins-none q h l (place-inside g) (begins-at g)))
       (⊎-elim (λ e. e) (λ l. absurd (begins-none p g l (place-inside h) (begins-at h))))
       (order p q)
+
+-- the same of two sets with the same members
+module _ {M N : List ℕ → Type 0} (same : (s : List ℕ) → M s ↔ N s) where
+  begins-as : {s : List ℕ} → Begins M s → Begins N s
+  begins-as {s} b = record { rest = b .rest; member = same (s ++ b .rest) .0 (b .member) }
+
+  as-begins : {s : List ℕ} → Begins N s → Begins M s
+  as-begins {s} b = record { rest = b .rest; member = same (s ++ b .rest) .1 (b .member) }
+
+  leaves-then : {s : List ℕ} {p : ℕ} → Leaves M s p → Leaves N s p
+  leaves-then (at-byte p l b n) = at-byte p l (begins-as b) (λ c. n (as-begins c))
+  leaves-then {s} (too-short b n) = too-short (begins-as b) (λ m. n (same s .1 m))
+
+  then-leaves : {s : List ℕ} {p : ℕ} → Leaves N s p → Leaves M s p
+  then-leaves (at-byte p l b n) = at-byte p l (as-begins b) (λ c. n (begins-as c))
+  then-leaves {s} (too-short b n) = too-short (as-begins b) (λ m. n (same s .0 m))
+
+  pub leaves-as : (s : List ℕ) (p : ℕ) → Leaves M s p ↔ Leaves N s p
+  leaves-as s p = (leaves-then, then-leaves)

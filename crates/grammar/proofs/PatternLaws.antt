@@ -16,17 +16,18 @@ use Rattle.grammar.proofs.MachineLaws.{Reads}
 pub full : {c : ℕ} {s : List ℕ} → _≡_ {A = List ℕ} [] (c ∷ s) → ⊥
 full e = let z : _≡_ {A = ℕ} 0 1 = cc in omega arith
 
-silent : {A : Type 0} {o : Option A} {x : A} → o ≡ none → o ≡ some x → ⊥
+-- nothing is found and not
+pub silent : {A : Type 0} {o : Option A} {x : A} → o ≡ none → o ≡ some x → ⊥
 silent e d = let z : _≡_ {A = ℕ} 0 1 = cc in omega arith
 
-left-true : (a b : Bool) → a ≡ true → a || b ≡ true
+pub left-true : (a b : Bool) → a ≡ true → a || b ≡ true
 left-true a b e = rw e
 
-right-true : (a b : Bool) → b ≡ true → a || b ≡ true
+pub right-true : (a b : Bool) → b ≡ true → a || b ≡ true
 right-true true b e = refl
 right-true false b e = e
 
-or-true : (a b : Bool) → a || b ≡ true → (a ≡ true) ⊎ (b ≡ true)
+pub or-true : (a b : Bool) → a || b ≡ true → (a ≡ true) ⊎ (b ≡ true)
 or-true true b e = inl refl
 or-true false b e = inr e
 

@@ -1,3 +1,4 @@
 pub mod Begins
 pub mod Patterns
 pub mod Stops
+pub mod Words

@@ -100,6 +100,9 @@ unnamed {b} h = sym (none-found (Unit {0}) kinds b h .1)
 pub shaped : {k j : Kind} {h : Shape} → k ≡ j → h ≡ row j .shape → h ≡ row k .shape
 shaped e d = rw e d
 
+pub byted : {k j : Kind} {b : ℕ} → k ≡ j → b ≡ row j .byte → b ≡ row k .byte
+byted e d = rw e d
+
 -- ---- only a constant has a value, and only a variable names one
 abbrev leafBytes : Shape → ℕ → Bool
 leafBytes Wrong b = true

@@ -1,4 +1,5 @@
--- The kind table of document 01, "Node kinds and their script text", a row for each kind. Everything else about kinds consults this table.
+-- The kind table of document 01, "Node kinds and their script text", a row for each kind, with the words of document 02's item 4. Everything else about kinds
+-- consults this table.
 use lib.IntN.{ℤ}
 use Prim.Native.Nat.{ℕ}
 use Prim.Native.String.{String}
@@ -23,17 +24,18 @@ Args (One s) = Tree s
 Args (Two s t) = Tree s × Tree t
 Args (Three s t u) = Tree s × Tree t × Tree u
 
--- a kind's number; the fields that its record uses, with the sorts of its operands; the sort that it gives; its tree from what it is made of; and
--- the word of its text: behind the opening parenthesis, or the whole text of a bare one
+-- a kind's number; the fields that its record uses, with the sorts of its operands; the sort that it gives; its tree from what it is made of;
+-- the word of its script text: behind the opening parenthesis, or the whole text of a bare one; and its word in plain texts, none for numbers and names
 pub record KindRow : Type 0 where
   pub byte : ℕ
   pub shape : Shape
   pub gives : Sort
   pub tree : Args shape → Tree gives
   pub word : List ℕ
+  pub plain : List ℕ
 
-abbrev entry : ℕ → (h : Shape) (s : Sort) → (Args h → Tree s) → String → KindRow
-entry b h s t w = record { byte = b; shape = h; gives = s; tree = t; word = ascii w }
+abbrev entry : ℕ → (h : Shape) (s : Sort) → (Args h → Tree s) → String → String → KindRow
+entry b h s t w p = record { byte = b; shape = h; gives = s; tree = t; word = ascii w; plain = ascii p }
 
 -- a tree of two operands, or of three
 abbrev two : {s t u : Sort} → (Tree s → Tree t → Tree u) → Tree s × Tree t → Tree u
@@ -44,24 +46,24 @@ three f x = f (x .0) (x .1) (x .2)
 
 -- the table; of no kind, false stands for the tree
 abbrev pub row : Kind → KindRow
-row Kind.Unknown = entry 0 Wrong Truth (λ x. Tree.fls) ""
-row Kind.True = entry 1 Bare Truth (λ x. Tree.tru) "true"
-row Kind.False = entry 2 Bare Truth (λ x. Tree.fls) "false"
-row Kind.Not = entry 3 (One Truth) Truth Tree.neg "not"
-row Kind.And = entry 4 (Two Truth Truth) Truth (two Tree.conj) "and"
-row Kind.Or = entry 5 (Two Truth Truth) Truth (two Tree.disj) "or"
-row Kind.Implies = entry 6 (Two Truth Truth) Truth (two Tree.implies) "=>"
-row Kind.Iff = entry 7 (Two Truth Truth) Truth (two Tree.iff) "="
-row Kind.Equal = entry 8 (Two Integer Integer) Truth (two Tree.equal) "="
-row Kind.Less = entry 9 (Two Integer Integer) Truth (two Tree.less) "bvslt"
-row Kind.AtMost = entry 10 (Two Integer Integer) Truth (two Tree.atMost) "bvsle"
-row Kind.Constant = entry 16 Valued Integer Tree.const ""
-row Kind.Variable = entry 17 Named Integer Tree.var ""
-row Kind.Minus = entry 18 (One Integer) Integer Tree.minus "bvneg"
-row Kind.Sum = entry 19 (Two Integer Integer) Integer (two Tree.sum) "bvadd"
-row Kind.Difference = entry 20 (Two Integer Integer) Integer (two Tree.difference) "bvsub"
-row Kind.Product = entry 21 (Two Integer Integer) Integer (two Tree.product) "bvmul"
-row Kind.If = entry 22 (Three Truth Integer Integer) Integer (three Tree.ite) "ite"
+row Kind.Unknown = entry 0 Wrong Truth (λ x. Tree.fls) "" ""
+row Kind.True = entry 1 Bare Truth (λ x. Tree.tru) "true" "true"
+row Kind.False = entry 2 Bare Truth (λ x. Tree.fls) "false" "false"
+row Kind.Not = entry 3 (One Truth) Truth Tree.neg "not" "not"
+row Kind.And = entry 4 (Two Truth Truth) Truth (two Tree.conj) "and" "and"
+row Kind.Or = entry 5 (Two Truth Truth) Truth (two Tree.disj) "or" "or"
+row Kind.Implies = entry 6 (Two Truth Truth) Truth (two Tree.implies) "=>" "implies"
+row Kind.Iff = entry 7 (Two Truth Truth) Truth (two Tree.iff) "=" "iff"
+row Kind.Equal = entry 8 (Two Integer Integer) Truth (two Tree.equal) "=" "eq"
+row Kind.Less = entry 9 (Two Integer Integer) Truth (two Tree.less) "bvslt" "lt"
+row Kind.AtMost = entry 10 (Two Integer Integer) Truth (two Tree.atMost) "bvsle" "le"
+row Kind.Constant = entry 16 Valued Integer Tree.const "" ""
+row Kind.Variable = entry 17 Named Integer Tree.var "" ""
+row Kind.Minus = entry 18 (One Integer) Integer Tree.minus "bvneg" "neg"
+row Kind.Sum = entry 19 (Two Integer Integer) Integer (two Tree.sum) "bvadd" "add"
+row Kind.Difference = entry 20 (Two Integer Integer) Integer (two Tree.difference) "bvsub" "sub"
+row Kind.Product = entry 21 (Two Integer Integer) Integer (two Tree.product) "bvmul" "mul"
+row Kind.If = entry 22 (Three Truth Integer Integer) Integer (three Tree.ite) "ite" "if"
 
 -- all kinds of the table
 abbrev pub kinds : List Kind

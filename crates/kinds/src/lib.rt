@@ -97,3 +97,29 @@ pub fn shape_of(kind: Kind) -> Shape
         Kind::If => Shape::Three(Sort::Truth, Sort::Integer, Sort::Integer),
     }
 }
+
+// The byte of a kind's record.
+pub fn byte_of(kind: Kind) -> u8
+    ensures { λ r. ⌜ r ≡ row kind .byte ⌝ }
+{
+    match kind {
+        Kind::Unknown => 0,
+        Kind::True => 1,
+        Kind::False => 2,
+        Kind::Not => 3,
+        Kind::And => 4,
+        Kind::Or => 5,
+        Kind::Implies => 6,
+        Kind::Iff => 7,
+        Kind::Equal => 8,
+        Kind::Less => 9,
+        Kind::AtMost => 10,
+        Kind::Constant => 16,
+        Kind::Variable => 17,
+        Kind::Minus => 18,
+        Kind::Sum => 19,
+        Kind::Difference => 20,
+        Kind::Product => 21,
+        Kind::If => 22,
+    }
+}

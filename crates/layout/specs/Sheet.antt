@@ -33,10 +33,16 @@ firstContent n vs = filled (pair 1 ++ (pair n ++ ((length vs ∷ replicate heade
 abbrev pub nodeContent : List Record → ℕ → List ℕ
 nodeContent rs b = filled (joined recordBytes (take nodesInBlock (drop (nodesInBlock * b) rs)))
 
+-- the contents of all blocks, for these variables and node records
+abbrev pub contentsWith : List Variable → List Record → List (List ℕ)
+contentsWith vs rs = firstContent (length rs) vs ∷ from (nodeContent rs) 0 (blocksFor (length rs))
+
+unfoldable pub sheetWith : List Variable → List Record → List ℕ
+sheetWith vs rs = sealed 0 (contentsWith vs rs)
+
 abbrev pub contentsOf : Rule → List (List ℕ)
-contentsOf r =
-    let rs : List Record = nodesOf 0 (r .goal) in
-    firstContent (length rs) (r .variables) ∷ from (nodeContent rs) 0 (blocksFor (length rs))
+contentsOf r = contentsWith (r .variables) (nodesOf 0 (r .goal))
 
 unfoldable pub sheetOf : Rule → List ℕ
-sheetOf r = sealed 0 (contentsOf r)
+unfolding sheetWith
+sheetOf r = sheetWith (r .variables) (nodesOf 0 (r .goal))

@@ -81,7 +81,3 @@ unfolding decimal
 decimal-short {n} f =
     let h : n < 18446744073709551616 = f .fits in
     short-in 19 (suc n) n (omega arith)
-
-pub decimal-5 : (n : ℕ) → n < 65536 → length (decimal n) ≤ 5
-unfolding decimal
-decimal-5 n h = short-in 4 (suc n) n (omega arith)

@@ -1,3 +1,2 @@
 pub mod DecimalLaws
-pub mod SignedLaws
 pub mod NameValueLaws

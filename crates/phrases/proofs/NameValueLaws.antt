@@ -24,7 +24,7 @@ use Rattle.room.proofs.RoomLaws.{wrote-as, wrote-no-texts, chain}
 use Rattle.numbers.specs.Decimal.{signed}
 use Rattle.phrases.specs.Phrases.{nameValue, nameValues}
 use Rattle.phrases.specs.Pieces.{Named, nameValueAt, nameValuesAt, failsLine}
-use Rattle.phrases.proofs.SignedLaws.{kept-is}
+use Rattle.spelling.proofs.NumberLaws.{kept-is}
 
 -- ---- a variable's name in an accepted sheet
 module _ (s : List ℕ) (e : refusalOf mostNodes s ≡ none) where

@@ -7,9 +7,12 @@ use Rattle.numbers.specs.Decimal.{decimal, signed}
 use Rattle.refusals.specs.declared.Refusal.{Refusal}
 use Rattle.meaning.specs.Rule.{Variable}
 
--- a line of two numbers, each behind its word
+-- two numbers, each behind its word, and such a line
+unfoldable pub numbersText : List ℕ → ℕ → List ℕ → ℕ → List ℕ
+numbersText a m b n = a ++ decimal m ++ b ++ decimal n
+
 unfoldable pub numbersLine : List ℕ → ℕ → List ℕ → ℕ → List ℕ
-numbersLine a m b n = a ++ decimal m ++ b ++ decimal n ++ ascii "\n"
+numbersLine a m b n = numbersText a m b n ++ ascii "\n"
 
 -- a refusal's line
 unfoldable pub refusalLine : Refusal → List ℕ

@@ -2,15 +2,14 @@
 ghost use mathlib.Core.Path.{_≡_};
 ghost use mathlib.Core.Option.{none};
 ghost use Prim.Native.Nat.{_+_, _*_, _≤_, _<_};
-ghost use lib.IntN.{natAbs};
 ghost use lib.ListN.{length};
 ghost use Rattle.layout.specs.Limits.{mostVariables, mostNodes};
 ghost use Rattle.layout.specs.Parts.{variableCount, variableAt};
 ghost use Rattle.reading.specs.Cascade.{refusalOf};
 ghost use Rattle.room.specs.Room.{Wrote};
-ghost use Rattle.numbers.specs.Decimal.{decimal, signed};
-ghost use Rattle.phrases.specs.Phrases.{numbersLine, refusalLine, nameValue};
-ghost use Rattle.phrases.specs.Sizes.{longestNumbers, longestRefusal, longestNameValue, longestFails};
+ghost use Rattle.numbers.specs.Decimal.{decimal};
+ghost use Rattle.phrases.specs.Phrases.{numbersText, numbersLine, refusalLine, nameValue};
+ghost use Rattle.phrases.specs.Sizes.{longestPair, longestNumbers, longestRefusal, longestNameValue, longestFails};
 ghost use Rattle.phrases.specs.Pieces.{Named, Settled, nameValuesAt, failsLine};
 use layout::MOST_VARIABLES;
 use numbers::VariableNumber;
@@ -26,29 +25,15 @@ fn put_decimal(room: &mut [u8], at: usize, n: u64) -> usize
     room::put(room, at, &text[..size])
 }
 
-// How far a number is from zero.
-fn magnitude(z: i16) -> u64
-    ensures { λ r. ⌜ r ≡ natAbs z ⌝ }
+// Two numbers, each behind its word.
+pub fn put_numbers(room: &mut [u8], at: usize, first: &[u8], m: u64, second: &[u8], n: u64) -> usize
+    requires { ⌜ at + longestPair (length (now first)) (length (now second)) ≤ length (now room) ⌝ }
+    ensures { λ r. ⌜ Wrote (numbersText (now (first .entry)) m (now (second .entry)) n) (now (room .entry)) (now (room .exit)) at r × (r ≤ at + longestPair (length (now (first .entry))) (length (now (second .entry)))) ⌝ }
 {
-    let wide = z as i32;
-    if wide < 0 {
-        (-wide) as u64
-    } else {
-        wide as u64
-    }
-}
-
-// An integer in decimal.
-fn put_signed(room: &mut [u8], at: usize, z: i16) -> usize
-    requires { ⌜ at + length (signed z) ≤ length (now room) ⌝ }
-    ensures { λ r. ⌜ Wrote (signed z) (now (room .entry)) (now (room .exit)) at r ⌝ }
-{
-    let n = magnitude(z);
-    if z < 0 {
-        let next = room::put(room, at, b"-");
-        return put_decimal(room, next, n);
-    }
-    put_decimal(room, at, n)
+    let p = room::put(room, at, first);
+    let q = put_decimal(room, p, m);
+    let r = room::put(room, q, second);
+    put_decimal(room, r, n)
 }
 
 // A line of two numbers, each behind its word, to the front of the room.
@@ -56,11 +41,8 @@ pub fn numbers_line(room: &mut [u8], first: &[u8], m: u64, second: &[u8], n: u64
     requires { ⌜ longestNumbers (length (now first)) (length (now second)) ≤ length (now room) ⌝ }
     ensures { λ r. ⌜ Wrote (numbersLine (now (first .entry)) m (now (second .entry)) n) (now (room .entry)) (now (room .exit)) 0 r ⌝ }
 {
-    let p = room::put(room, 0, first);
-    let q = put_decimal(room, p, m);
-    let r = room::put(room, q, second);
-    let s = put_decimal(room, r, n);
-    room::put(room, s, b"\n")
+    let next = put_numbers(room, 0, first, m, second, n);
+    room::put(room, next, b"\n")
 }
 
 // The line of a refusal, to the front of the room.
@@ -94,7 +76,7 @@ fn put_name_value(sheet: &[u8], n: VariableNumber, z: i16, room: &mut [u8], at: 
     let p = room::put(room, at, b" ");
     let q = room::put(room, p, name);
     let r = room::put(room, q, b"=");
-    put_signed(room, r, z)
+    spelling::put_number(room, r, z)
 }
 
 // Those of the first variables, by a row of values.

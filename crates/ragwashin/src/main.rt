@@ -1,13 +1,16 @@
-// Answers requests about sheets, in files or on standard input, and about solvers' replies; with no word it writes the script.
+// Answers requests about sheets, in files or on standard input, and about solvers' replies, and makes sheets of texts and texts of sheets; with no word it writes the script.
 ghost use mathlib.Core.Path.{_≡_};
 ghost use mathlib.Core.Bool.{true};
+ghost use Rattle.io.specs.Counts.{Counts};
 ghost use Rattle.lists.specs.Names.{sameBytes};
-ghost use Rattle.ragwashin.specs.Words.{meant, wordOf, isLine};
+ghost use Rattle.ragwashin.specs.Words.{meant, otherWord, wordOf, isLine, givesLines, isText};
 use answers::Request;
 use layout::MOST_SHEET_BYTES;
 use libc::STDERR_FILENO;
 use libc::STDIN_FILENO;
 use libc::STDOUT_FILENO;
+use printer::LONGEST_TEXT;
+use sources::LONGEST_LINE;
 use writer::ENOUGH_ROOM;
 
 // One byte more than the longest sheet has: a longer input is refused by its length.
@@ -21,15 +24,27 @@ const MOST_REPLY: usize = 65536;
 
 const MOST_REPLY_READ: usize = MOST_REPLY + 1;
 
+// The longest text that is judged, and one byte more.
+const MOST_TEXT: usize = 65536;
+
+const MOST_TEXT_READ: usize = MOST_TEXT + 1;
+
 // Behind the sheet that it is a reply to.
 const REPLY_FILE: usize = FIRST_FILE + 1;
+
+// What is done with an input: a text's sheet, a sheet's text, or an answer.
+enum Job {
+    Make,
+    Text,
+    Answer(Request),
+}
 
 // What the first word is.
 enum Word {
     Unknown,
     Help,
     Reply,
-    Asks(Request),
+    Asks(Job),
 }
 
 // What a text means: this, where it is the word, or else what it means without that word.
@@ -42,16 +57,45 @@ fn meaning(text: &[u8], word: &[u8], this: Word, other: Word) -> Word
     other
 }
 
-fn word_of(text: &[u8]) -> Word
-    ensures { λ r. ⌜ r ≡ wordOf (now (text .entry)) ⌝ }
+// What a text means that is no word for an answer.
+fn other_word(text: &[u8]) -> Word
+    ensures { λ r. ⌜ r ≡ otherWord (now (text .entry)) ⌝ }
 {
     let help = meaning(text, b"--help", Word::Help, Word::Unknown);
     let reply = meaning(text, b"reply", Word::Reply, help);
-    let tally = meaning(text, b"tally", Word::Asks(Request::Tally), reply);
-    let check = meaning(text, b"check", Word::Asks(Request::Check), tally);
-    let ask = meaning(text, b"ask", Word::Asks(Request::Ask), check);
-    let script = meaning(text, b"script", Word::Asks(Request::Script), ask);
-    meaning(text, b"read", Word::Asks(Request::Read), script)
+    let printed = meaning(text, b"text", Word::Asks(Job::Text), reply);
+    meaning(text, b"make", Word::Asks(Job::Make), printed)
+}
+
+fn word_of(text: &[u8]) -> Word
+    ensures { λ r. ⌜ r ≡ wordOf (now (text .entry)) ⌝ }
+{
+    let other = other_word(text);
+    let tally = meaning(
+        text,
+        b"tally",
+        Word::Asks(Job::Answer(Request::Tally)),
+        other,
+    );
+    let check = meaning(
+        text,
+        b"check",
+        Word::Asks(Job::Answer(Request::Check)),
+        tally,
+    );
+    let ask = meaning(text, b"ask", Word::Asks(Job::Answer(Request::Ask)), check);
+    let script = meaning(
+        text,
+        b"script",
+        Word::Asks(Job::Answer(Request::Script)),
+        ask,
+    );
+    meaning(
+        text,
+        b"read",
+        Word::Asks(Job::Answer(Request::Read)),
+        script,
+    )
 }
 
 // Answers of one line can follow one another; scripts cannot.
@@ -64,6 +108,16 @@ fn is_line(request: Request) -> bool
         Request::Ask => false,
         Request::Check => true,
         Request::Tally => true,
+    }
+}
+
+fn gives_lines(job: Job) -> bool
+    ensures { λ r. ⌜ r ≡ givesLines job ⌝ }
+{
+    match job {
+        Job::Make => false,
+        Job::Text => false,
+        Job::Answer(request) => is_line(request),
     }
 }
 
@@ -88,17 +142,36 @@ fn say_unknown(word: &[u8]) {
     io::write_all(STDERR_FILENO, b"' (ragwashin --help lists the words)\n");
 }
 
-fn say_one_script() {
+fn say_one(words: &[u8]) {
+    io::write_all(STDERR_FILENO, b"ragwashin: ");
+    io::write_all(STDERR_FILENO, words);
     io::write_all(
         STDERR_FILENO,
-        b"ragwashin: script and ask take one file, and several are named: nothing is written\n",
+        b" take one file, and several are named: nothing is written\n",
     );
+}
+
+fn say_one_file(job: Job) {
+    match job {
+        Job::Make => say_one(b"make and text"),
+        Job::Text => say_one(b"make and text"),
+        Job::Answer(request) => say_one(b"script and ask"),
+    }
 }
 
 fn say_one_reply() {
     io::write_all(
         STDERR_FILENO,
         b"ragwashin: reply takes a sheet and at most one reply to it: nothing is judged\n",
+    );
+}
+
+fn say_long_text(name: &[u8]) {
+    io::write_all(STDERR_FILENO, b"ragwashin: ");
+    io::write_all(STDERR_FILENO, name);
+    io::write_all(
+        STDERR_FILENO,
+        b": the text has more than 65536 bytes: it is not judged\n",
     );
 }
 
@@ -133,18 +206,129 @@ fn has_ended(fd: i32, size: usize, most: usize) -> bool
     libc::read(fd, &mut next) == 0
 }
 
+// An input's sheet: whether there is one, and how many bytes it has.
+struct Input {
+    is_taken: bool,
+    size: usize,
+}
+
+// Whether a file of this name has a text in it.
+fn is_text(name: &[u8]) -> bool
+    ensures { λ r. ⌜ r ≡ isText (now (name .entry)) ⌝ }
+{
+    if name.len() < 5 {
+        return false;
+    }
+    records::same_bytes(&name[name.len() - 5..], b".rule")
+}
+
+// Writes an answer, or says why it can't.
+fn tell(name: &[u8], is_named: bool, text: &[u8]) {
+    if !write_line(name, is_named, text) {
+        say_failed(name, b"its answer cannot be written");
+    }
+}
+
+// Reads a sheet.
+fn read_sheet(fd: i32, name: &[u8], sheet: &mut [u8]) -> Input
+    ensures { λ r. ⌜ Counts (r .size) (now (sheet .exit)) ⌝ }
+{
+    let size = io::read_full(fd, sheet);
+    let is_read = has_ended(fd, size, sheet.len());
+    if !is_read {
+        say_failed(name, b"cannot be read");
+    }
+    Input {
+        is_taken: is_read,
+        size: size,
+    }
+}
+
+// Makes the sheet of a text, or answers with the line of its refusal.
+fn make_sheet(text: &[u8], name: &[u8], is_named: bool, sheet: &mut [u8]) -> Input
+    ensures { λ r. ⌜ Counts (r .size) (now (sheet .exit)) ⌝ }
+{
+    let mut line = [0u8; LONGEST_LINE];
+    let source = sources::sheet_of(text, sheet, &mut line);
+    if 0 < source.line {
+        tell(name, is_named, &line[..source.line]);
+    }
+    Input {
+        is_taken: source.line == 0,
+        size: source.sheet,
+    }
+}
+
+// Reads a text, and makes its sheet. The text's room is given back before the sheet is answered for.
+fn read_text(fd: i32, name: &[u8], is_named: bool, sheet: &mut [u8]) -> Input
+    ensures { λ r. ⌜ Counts (r .size) (now (sheet .exit)) ⌝ }
+{
+    let mut text = [0u8; MOST_TEXT_READ];
+    let size = io::read_full(fd, &mut text);
+    if !has_ended(fd, size, MOST_TEXT_READ) {
+        say_failed(name, b"cannot be read");
+        return Input {
+            is_taken: false,
+            size: 0,
+        };
+    }
+    if MOST_TEXT < size {
+        say_long_text(name);
+        return Input {
+            is_taken: false,
+            size: 0,
+        };
+    }
+    make_sheet(&text[..size], name, is_named, sheet)
+}
+
+// Takes the sheet that a file has, or that its text makes.
+fn take_sheet(fd: i32, name: &[u8], is_named: bool, sheet: &mut [u8]) -> Input
+    ensures { λ r. ⌜ Counts (r .size) (now (sheet .exit)) ⌝ }
+{
+    if is_text(name) {
+        return read_text(fd, name, is_named, sheet);
+    }
+    read_sheet(fd, name, sheet)
+}
+
 // Answers one input.
 fn answer(request: Request, fd: i32, name: &[u8], is_named: bool) {
-    let mut input = [0u8; MOST_READ];
-    let size = io::read_full(fd, &mut input);
-    if !has_ended(fd, size, MOST_READ) {
-        say_failed(name, b"cannot be read");
-        return;
+    let mut sheet = [0u8; MOST_READ];
+    let input = take_sheet(fd, name, is_named, &mut sheet);
+    if input.is_taken {
+        let mut room = [0u8; ENOUGH_ROOM];
+        let length = answers::answer(request, &sheet[..input.size], &mut room);
+        tell(name, is_named, &room[..length]);
     }
-    let mut room = [0u8; ENOUGH_ROOM];
-    let length = answers::answer(request, &input[..size], &mut room);
-    if !write_line(name, is_named, &room[..length]) {
-        say_failed(name, b"its answer cannot be written");
+}
+
+// Writes the sheet of a text.
+fn write_sheet(fd: i32, name: &[u8]) {
+    let mut sheet = [0u8; MOST_READ];
+    let input = read_text(fd, name, false, &mut sheet);
+    if input.is_taken {
+        tell(name, false, &sheet[..input.size]);
+    }
+}
+
+// Writes the text of a sheet.
+fn write_text(fd: i32, name: &[u8]) {
+    let mut sheet = [0u8; MOST_READ];
+    let input = read_sheet(fd, name, &mut sheet);
+    if input.is_taken {
+        let mut room = [0u8; LONGEST_TEXT];
+        let length = sources::text_answer(&sheet[..input.size], &mut room);
+        tell(name, false, &room[..length]);
+    }
+}
+
+// Does what is asked with one input.
+fn work(job: Job, fd: i32, name: &[u8], is_named: bool) {
+    match job {
+        Job::Make => write_sheet(fd, name),
+        Job::Text => write_text(fd, name),
+        Job::Answer(request) => answer(request, fd, name, is_named),
     }
 }
 
@@ -163,34 +347,34 @@ fn open_argument(place: usize) -> i32 {
     fd
 }
 
-// Answers the file that an argument names.
-fn answer_file(request: Request, place: usize, is_named: bool) {
+// Works on the file that an argument names.
+fn work_on_file(job: Job, place: usize, is_named: bool) {
     let fd = open_argument(place);
     if fd < 0 {
         return;
     }
     let mut path = io::buffer();
     let size = os::arg(place, &mut path);
-    answer(request, fd, &path[..size], is_named);
+    work(job, fd, &path[..size], is_named);
     libc::close(fd);
 }
 
-// Answers each file up to the last argument, whatever became of those before it.
-fn answer_files(request: Request, arguments: usize) {
+// Works on each file up to the last argument, whatever became of those before it.
+fn work_on_files(job: Job, arguments: usize) {
     for place in FIRST_FILE..arguments {
-        answer_file(request, place, true);
+        work_on_file(job, place, true);
     }
 }
 
-fn answer_all(request: Request, arguments: usize) {
+fn work_on_all(job: Job, arguments: usize) {
     if arguments <= FIRST_FILE {
-        answer(request, STDIN_FILENO, b"standard input", false);
+        work(job, STDIN_FILENO, b"standard input", false);
     } else if arguments == FIRST_FILE + 1 {
-        answer_file(request, FIRST_FILE, false);
-    } else if is_line(request) {
-        answer_files(request, arguments);
+        work_on_file(job, FIRST_FILE, false);
+    } else if gives_lines(job) {
+        work_on_files(job, arguments);
     } else {
-        say_one_script();
+        say_one_file(job);
     }
 }
 
@@ -208,9 +392,7 @@ fn judge(sheet: &[u8], fd: i32) {
     }
     let mut room = [0u8; ENOUGH_ROOM];
     let length = answers::reply_answer(sheet, &reply[..size], &mut room);
-    if !io::write_all(STDOUT_FILENO, &room[..length]) {
-        say_failed(b"the reply", b"its answer cannot be written");
-    }
+    tell(b"the reply", false, &room[..length]);
 }
 
 // Judges the reply in a file, or on standard input where none is named.
@@ -227,17 +409,24 @@ fn judge_reply(sheet: &[u8], arguments: usize) {
     libc::close(fd);
 }
 
-// Reads the sheet that an open file has, and judges the reply to it. The file is closed first: it has standard input's number where that is closed.
-fn judge_by(fd: i32, arguments: usize) {
-    let mut input = [0u8; MOST_READ];
-    let size = io::read_full(fd, &mut input);
-    let is_read = has_ended(fd, size, MOST_READ);
-    libc::close(fd);
-    if !is_read {
-        say_failed(b"the sheet", b"cannot be read");
-        return;
+// Takes the sheet that is replied to.
+fn take_replied(fd: i32, name: &[u8], sheet: &mut [u8]) -> Input
+    ensures { λ r. ⌜ Counts (r .size) (now (sheet .exit)) ⌝ }
+{
+    if is_text(name) {
+        return read_text(fd, name, false, sheet);
     }
-    judge_reply(&input[..size], arguments);
+    read_sheet(fd, b"the sheet", sheet)
+}
+
+// Takes the sheet of an open file, and judges the reply to it. The file is closed first: it has standard input's number where that is closed.
+fn judge_by(fd: i32, name: &[u8], arguments: usize) {
+    let mut sheet = [0u8; MOST_READ];
+    let input = take_replied(fd, name, &mut sheet);
+    libc::close(fd);
+    if input.is_taken {
+        judge_reply(&sheet[..input.size], arguments);
+    }
 }
 
 // The word `reply`: a sheet, and at most one reply.
@@ -254,7 +443,9 @@ fn reply(arguments: usize) {
     if fd < 0 {
         return;
     }
-    judge_by(fd, arguments);
+    let mut path = io::buffer();
+    let size = os::arg(FIRST_FILE, &mut path);
+    judge_by(fd, &path[..size], arguments);
 }
 
 fn help() {
@@ -262,13 +453,16 @@ fn help() {
         STDOUT_FILENO,
         b"usage: ragwashin [WORD [FILE ...]]
 
-Answers about each FILE, a rule sheet; about standard input where none is named.
+Answers about each FILE, a rule sheet, or a rule's text where the name ends in
+.rule; about a sheet on standard input where none is named.
 
   read    accepted
   check   holds, or fails NAME=VALUE ...: the first failing case
   tally   held H failed F: how many cases held and how many failed
   script  the script for an SMT solver, of one FILE; so too where WORD is left out
   ask     the same, and it asks for a failing case
+  make    the sheet of one text, whatever its name, or of standard input
+  text    the text of one sheet
   --help  this text
 
 ragwashin reply SHEET [REPLY] judges what a solver answered to ask, in the file
@@ -279,8 +473,15 @@ domain 12, a case that does not fail 13.
 ./ragwashin solve FILE ... asks a solver (z3 or cvc5, or the command in
 RAGWASHIN_SOLVER, for 60 seconds or RAGWASHIN_SECONDS) and judges its reply.
 
-A sheet that is turned away is answered by 'refused R at P'. Where two or more
-files are named, 'FILE: ' stands before each answer.
+A text has a line 'var NAME MIN MAX' for each variable, then a line 'goal' with
+an expression, each word before its operands: true false not and or implies iff
+eq lt le neg add sub mul if, decimal numbers, and the variables' names.
+
+A sheet that is turned away is answered by 'refused R at P', a text so too, with
+' (line L column C)' behind it where it points at a byte. Where two or more files
+are named, 'FILE: ' stands before each answer.
+  refused 18: no text begins like this; P is the first byte that fits none
+  refused 19: no text can be written, since the name of variable P is a word
 
 Exit status of ./ragwashin: 0 accepted, holds, written, none failed, or unsat
 claimed; 1 fails, or some failed; 2 refused; 3 anything else, with a message on
@@ -295,7 +496,7 @@ standard error. Of several files the highest.
 fn main() {
     let arguments = os::arg_count();
     if arguments < FIRST_FILE {
-        answer_all(Request::Script, arguments);
+        work_on_all(Job::Answer(Request::Script), arguments);
         return;
     }
     let mut text = io::buffer();
@@ -309,6 +510,6 @@ fn main() {
         Word::Unknown => say_unknown(&text[..size]),
         Word::Help => help(),
         Word::Reply => reply(arguments),
-        Word::Asks(request) => answer_all(request, arguments),
+        Word::Asks(job) => work_on_all(job, arguments),
     }
 }

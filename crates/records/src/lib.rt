@@ -58,7 +58,7 @@ fn name_byte(b: u8) -> bool
 }
 
 // Whether the bytes are a name.
-fn name_right(name: &[u8]) -> bool
+pub fn name_right(name: &[u8]) -> bool
     ensures { λ r. ⌜ r ≡ nameRight (now (name .entry)) ⌝ }
 {
     if name.len() == 0 {

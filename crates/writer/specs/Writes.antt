@@ -2,7 +2,7 @@
 use Prim.Native.Nat.{ℕ}
 use mathlib.Core.Path.{_≡_}
 use mathlib.Core.List.{List}
-use mathlib.Core.Option.{Option, none, some}
+use mathlib.Core.Option.{Option}
 use lib.Dec.{leb}
 use lib.ListN.{length}
 use Rattle.lists.specs.First.{_otherwise_}
@@ -12,9 +12,8 @@ use Rattle.refusals.specs.Said.{unless}
 use Rattle.reading.specs.Cascade.{refusalOf}
 use Rattle.wording.specs.Form.{Form}
 use Rattle.wording.specs.Script.{script}
-use Rattle.writer.specs.declared.Written.{Written}
-use Rattle.writer.specs.declared.Written.the-variants.{Script, Refused}
-use Rattle.room.specs.Room.{over}
+use Rattle.room.specs.declared.Written.{Written}
+use Rattle.room.specs.Written.{writtenSaid, writtenVerdict, writtenRoom}
 
 -- the sheet's own refusal, then 9 at the script's bytes: a room of fewer bytes
 unfoldable pub scriptRefusal : ℕ → Form → List ℕ → ℕ → Option Refusal
@@ -24,20 +23,6 @@ scriptRefusal limit f s room = refusalOf limit s otherwise unless (leb (length (
 abbrev pub enoughRoom : ℕ
 enoughRoom = 20480
 
--- what an answer says: the refusal and 0, or none and the bytes written
-abbrev pub writtenSaid : Written → Option Refusal × ℕ
-writtenSaid (Script n) = (none, n)
-writtenSaid (Refused r) = (some r, 0)
-
--- the answer where t is the script, and the room afterwards: a refusal changes nothing
-abbrev pub scriptVerdict : Option Refusal → List ℕ → Option Refusal × ℕ
-scriptVerdict none t = (none, length t)
-scriptVerdict (some r) t = (some r, 0)
-
-abbrev pub scriptRoom : Option Refusal → List ℕ → List ℕ → List ℕ
-scriptRoom none t room = over t room
-scriptRoom (some r) t room = room
-
 pub record Writes (limit : ℕ) (f : Form) (s before : List ℕ) (r : Written) (after : List ℕ) : Type 0 where
-  pub answer : writtenSaid r ≡ scriptVerdict (scriptRefusal limit f s (length before)) (script f (ruleIn s))
-  pub room : after ≡ scriptRoom (scriptRefusal limit f s (length before)) (script f (ruleIn s)) before
+  pub answer : writtenSaid r ≡ writtenVerdict (scriptRefusal limit f s (length before)) (script f (ruleIn s))
+  pub room : after ≡ writtenRoom (scriptRefusal limit f s (length before)) (script f (ruleIn s)) before

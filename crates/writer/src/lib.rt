@@ -16,6 +16,7 @@ use numbers::NodeNumber;
 use pieces::BLANK;
 use refusals::Reading;
 use refusals::Refusal;
+use room::Written;
 use wording::ScriptForm;
 
 // A room of so many bytes is enough for both scripts of every accepted sheet.
@@ -38,12 +39,6 @@ const FRAME_BYTES: usize = SET_LOGIC.len()
     + BLANK.len()
     + GOAL_END.len()
     + EXIT.len();
-
-// The script's bytes at the front of the room, so many, or the refusal.
-pub enum Written {
-    Script(usize),
-    Refused(Refusal),
-}
 
 // The first line of a script with models, to the front of the room.
 fn models_line(form: ScriptForm, room: &mut [u8]) -> usize
@@ -153,7 +148,7 @@ fn write_accepted(sheet: &[u8], form: ScriptForm, room: &mut [u8]) -> Written
             place: size,
         });
     }
-    Written::Script(put_script(sheet, form, room))
+    Written::Done(put_script(sheet, form, room))
 }
 
 // The script to the front of the room; a refusal leaves the room untouched.

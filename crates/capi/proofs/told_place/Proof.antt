@@ -1,7 +1,7 @@
 -- `told_place` meets its contract: by whether 48 bits hold the place. Assumes nothing.
 use native.Mathlib.Omega.{arith}
 use borrow.Author.Needs.{needs}
-use Rattle.capi.proofs.ReplyLaws.{low-place, high-place}
+use Rattle.capi.proofs.CodeLaws.{low-place, high-place}
 use Rattle.capi.proofs.told_place.Statement.{statement}
 use Rattle.capi.proofs.told_place.Tie as tie
 

@@ -2,13 +2,13 @@
 use native.Mathlib.Omega.{arith}
 use borrow.Author.Needs.{needs}
 use Rattle.room.proofs.RoomLaws.{wrote-as, chain4}
+use Rattle.spelling.proofs.NumberLaws.{signed-short}
 use Rattle.phrases.proofs.NameValueLaws.{name-value-from}
-use Rattle.phrases.proofs.SignedLaws.{signed-short}
 use Rattle.phrases.proofs.put_name_value.Statement.{statement}
 use Rattle.phrases.proofs.put_name_value.Tie as tie
 
-put-signed-requires : tie.Need-put-signed-requires
-put-signed-requires c κs = omega (arith, signed-short (c .before .before .before .before .before .before .before .before .before .before .before .before .before .before .before .before .before .before .fits .z))
+put-number-requires : tie.Need-put-number-requires
+put-number-requires c κs = omega (arith, signed-short (c .before .before .before .before .before .before .before .before .before .before .before .before .before .before .before .before .before .before .fits .z))
 
 returns : tie.Need-returns
 returns c =
@@ -19,7 +19,7 @@ returns c =
     let start = at-name-of .before .before .before in
     let z = signed-short (start .fits .z) in (
       wrote-as
-          (chain4 (omega arith) (at-put .put .ensures) (at-put2 .put2 .ensures) (at-put3 .put3 .ensures) (c .before .before .put-signed .ensures))
+          (chain4 (omega arith) (at-put .put .ensures) (at-put2 .put2 .ensures) (at-put3 .put3 .ensures) (c .before .before .put-number .ensures))
           (name-value-from (at-name-of .name-of .ensures) (start .fits .z)),
       omega (arith, at-name-of .name-of .ensures .short),
     )
@@ -34,6 +34,6 @@ put-name-value-spec =
     (λ c κs. search needs)
     (λ c. search needs)
     (λ c κs. search needs)
-    put-signed-requires
+    put-number-requires
     (λ c. search needs)
     returns)

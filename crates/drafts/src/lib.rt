@@ -1,0 +1,1 @@
+// No code: round trips between plain texts, what they say, and sheets. See specs/ and proofs/.

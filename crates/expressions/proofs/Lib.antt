@@ -1,0 +1,2 @@
+pub mod NameLaws
+pub mod PhraseLaws

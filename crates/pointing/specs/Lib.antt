@@ -1,0 +1,4 @@
+pub mod Pointing
+pub mod Pointed
+pub mod Standing
+pub mod Lines

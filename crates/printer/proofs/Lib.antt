@@ -1,0 +1,5 @@
+pub mod LineLaws
+pub mod TextLaws
+pub mod PrintLaws
+pub mod Short
+pub mod Exact

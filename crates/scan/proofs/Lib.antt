@@ -1,0 +1,4 @@
+pub mod Leading
+pub mod Beginnings
+pub mod Scanning
+pub mod Unique

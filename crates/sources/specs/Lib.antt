@@ -1,0 +1,3 @@
+pub mod Sources
+pub mod Refusing
+pub mod Texts

@@ -1,0 +1,13 @@
+pub mod Lines
+pub mod NumberLaws
+pub mod PrefixLaws
+pub mod ByteLaws
+pub mod PlaceLaws
+pub mod ScanLaws
+pub mod PlaceExactly
+pub mod Vectors
+pub mod SpellingLaws
+pub mod DraftLaws
+pub mod CountLaws
+pub mod TextLaws
+pub mod OneLaws
