@@ -26,3 +26,5 @@ pub const HIGH: i64 = 32_767;
 pub const MOST_CASES: u64 = 1_000_000;
 /// Bytes that are enough for every script.
 pub const ENOUGH_ROOM: usize = 20_480;
+/// Bytes that are enough for every text of an accepted sheet, and the longest text's.
+pub const LONGEST_TEXT: usize = 23_183;

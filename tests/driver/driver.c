@@ -75,7 +75,9 @@ static byte *area_of(size bytes) {
 }
 
 /* The bytes of a subject's room for each number of its length; 0 where it has none. */
-static size room_unit(byte subject) { return subject == CHECK ? 2 : subject == SCRIPT || subject == ASK ? 1 : 0; }
+static size room_unit(byte subject) {
+    return subject == CHECK ? 2 : subject == SCRIPT || subject == ASK || subject >= MAKE ? 1 : 0;
+}
 
 static byte filling(unsigned pattern, unsigned place) { return pattern * (2 * place + 1) >> 24; }
 

@@ -3,11 +3,12 @@ typedef unsigned long size;
 typedef unsigned char byte;
 
 enum { /* a question's subject */
-    READ = 1, NAME = 2, BLOCK = 3, CHECK = 4, TALLY = 5, SCRIPT = 6, ASK = 7, REPLY = 8, DIGITS = 9
+    READ = 1, NAME = 2, BLOCK = 3, CHECK = 4, TALLY = 5, SCRIPT = 6, ASK = 7, REPLY = 8, DIGITS = 9,
+    MAKE = 10, TEXT = 11, MAKE_TEXT = 12, TEXT_MAKE = 13
 };
 
 struct lent {
-    const byte *sheet;
+    const byte *sheet; /* or a plain text, where it is asked about */
     size sheet_length; /* in bytes */
     const byte *reply;
     size reply_length; /* in bytes; 0 where it isn't asked about */

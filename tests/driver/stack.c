@@ -1,6 +1,6 @@
-/* Tells how much stack each call takes with the sheet on standard input, which has 16 variables, and a reply that
-   gives each the value 0: the bytes of read, name, block, check, tally, script, ask, reply and digits, in a line. A
-   call that does nothing counts as none. */
+/* Tells how much stack each call takes with the sheet on standard input, which has 16 variables, a reply that gives
+   each the value 0, and the sheet's text: the bytes of read, name, block, check, tally, script, ask, reply and digits,
+   in a line, and with TEXTS also those of text and make. A call that does nothing counts as none. */
 #include "driver.h"
 #include "painted.h"
 
@@ -12,6 +12,10 @@ extern unsigned long ragwashin_script(const byte *, size, byte *, size);
 extern unsigned long ragwashin_ask(const byte *, size, byte *, size);
 extern unsigned long ragwashin_reply(const byte *, size, const byte *, size);
 extern unsigned long ragwashin_digits(const byte *, size, const byte *, size, unsigned short);
+#ifdef TEXTS
+extern unsigned long ragwashin_make(const byte *, size, byte *, size);
+extern unsigned long ragwashin_text(const byte *, size, byte *, size);
+#endif
 extern long read(int, void *, size);
 extern long write(int, const void *, size);
 
@@ -41,9 +45,21 @@ static unsigned long call_ask(void) { return ragwashin_ask(sheet, length, room, 
 static unsigned long call_reply(void) { return ragwashin_reply(sheet, length, reply, reply_length); }
 static unsigned long call_digits(void) { return ragwashin_digits(sheet, length, reply, reply_length, 15); }
 
+#ifdef TEXTS
+static byte text[MOST];
+static size text_length;
+static unsigned long call_text(void) { return text_length = ragwashin_text(sheet, length, text, MOST); }
+/* Its text is there: it is printed first. */
+static unsigned long call_make(void) { return ragwashin_make(text, text_length, room, MOST); }
+#endif
+
 typedef unsigned long call(void);
 static call *const volatile calls[] = {call_read,   call_name, call_block, call_check, call_tally,
-                                       call_script, call_ask,  call_reply, call_digits};
+                                       call_script, call_ask,  call_reply, call_digits,
+#ifdef TEXTS
+                                       call_text,   call_make
+#endif
+};
 enum { CALLS = sizeof calls / sizeof calls[0] };
 
 /* Calls from below the painter's own frame, so that all of the call is in the paint. */
@@ -78,6 +94,9 @@ int main(void) {
     /* The case fails, or it is tried and doesn't. */
     unsigned long said = call_reply();
     if (ragwashin_read(sheet, length) != 0 || (said != 1 && said >> 48 != 13)) return 1;
+#ifdef TEXTS
+    if (call_text() >> 48 || call_make() != length) return 3;
+#endif
     for (int i = 0; i < CALLS; i++) {
         size none = taken(call_nothing), bytes = taken(calls[i]);
         if (none == 0 || bytes >= PAINTED) return 2;

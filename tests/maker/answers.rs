@@ -1,10 +1,9 @@
 // The answers that a rule's sheet must get, found from its text: the sheet's bytes are not looked at.
 
 use crate::cases::{self, Case};
-use crate::limits::{BLOCK, MOST_CASES};
+use crate::limits::MOST_CASES;
 use crate::ranges;
 use crate::rule::Rule;
-use crate::text::{Spoil, Written};
 
 /// Where the answers to 'read', 'check' and 'tally' are not the same refusal.
 #[derive(PartialEq)]
@@ -35,32 +34,17 @@ pub fn tallied(held: u64, failed: u64) -> String {
     format!("held {} failed {}", held, failed)
 }
 
-pub fn of(written: &Written) -> Result<Answers, String> {
-    let rule = &written.rule;
-    let all = |said: String| Answers { read: said.clone(), check: said.clone(), tally: said };
-    if let Some(said) = spoiled(&written.spoils)? {
-        return Ok(all(said));
-    }
+pub fn of(rule: &Rule) -> Answers {
     if let Some(node) = ranges::first_leaving(rule) {
-        return Ok(all(refused(8, node as u64)));
+        let said = refused(8, node as u64);
+        return Answers { read: said.clone(), check: said.clone(), tally: said };
     }
     let read = "accepted".to_string();
     let count = cases::count(rule);
     if count > MOST_CASES {
-        return Ok(Answers { read, check: refused(10, 0), tally: refused(10, 0) });
+        return Answers { read, check: refused(10, 0), tally: refused(10, 0) };
     }
     let outcome = cases::outcome(rule, 1);
     let check = outcome.failing.first().map_or("holds".to_string(), |case: &Case| failing(rule, case));
-    Ok(Answers { read, check, tally: tallied(count - outcome.failed, outcome.failed) })
-}
-
-/// The refusal that comes of what is wrong with the sheet.
-fn spoiled(spoils: &[Spoil]) -> Result<Option<String>, String> {
-    match spoils {
-        [] => Ok(None),
-        [Spoil::Length(length)] if length % BLOCK != 0 => Ok(Some(refused(1, 0))),
-        [Spoil::Byte(byte, _)] => Ok(Some(refused(2, (byte / BLOCK) as u64))),
-        [Spoil::Edition(edition)] if *edition != 1 => Ok(Some(refused(3, 0))),
-        _ => Err("what comes of this spoiling is not known beforehand".to_string()),
-    }
+    Answers { read, check, tally: tallied(count - outcome.failed, outcome.failed) }
 }

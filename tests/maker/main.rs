@@ -1,7 +1,7 @@
 // The maker: makes sheets from rules' texts, says what answers they must get, and has solvers judge scripts. It
 // shares no code with the library and the oracle, and with the tests' sheets no more than the layout.
 //
-//   maker sheet RULE SHEET               makes the sheet of a rule's text (see text.rs)
+//   maker sheet RULE SHEET               makes the sheet of a rule's plain text, whether a reader accepts it or not
 //   maker answers ORACLE RULE..          the answers that the sheets must get, a line for each call; fails
 //                                        where the oracle, asked about the sheets, says another thing
 //   maker trials script|ask SHEET..      trials that ask for the script of each sheet, in one form or the other
@@ -28,11 +28,11 @@ mod trials;
 
 use exams::{Counts, Examiner, SOLVERS};
 use replies::COMMANDS;
+use rule::Rule;
 use std::fs;
 use std::io::{self, Write};
 use std::path::Path;
 use std::process::exit;
-use text::Written;
 
 fn main() {
     let words: Vec<String> = std::env::args().skip(1).collect();
@@ -64,20 +64,20 @@ fn read(file: &str) -> Result<Vec<u8>, String> {
     fs::read(file).map_err(|error| format!("{}: {}", file, error))
 }
 
-/// A rule's text as it is read, and its sheet.
-fn made(file: &str) -> Result<(Written, Vec<u8>), String> {
+/// A text's rule, and its sheet.
+fn made(file: &str) -> Result<(Rule, Vec<u8>), String> {
     let text = fs::read_to_string(file).map_err(|error| format!("{}: {}", file, error))?;
-    let written = text::read(&text).map_err(|why| format!("{}: {}", file, why))?;
-    let sheet = sheet::made(&written).map_err(|why| format!("{}: {}", file, why))?;
-    Ok((written, sheet))
+    let rule = text::read(&text).map_err(|why| format!("{}: {}", file, why))?;
+    let sheet = sheet::made(&rule);
+    Ok((rule, sheet))
 }
 
 fn tell_answers(oracle: &str, rules: &[&str]) -> Result<(), String> {
     let mut own = Vec::new();
     let mut sheets = Vec::new();
     for file in rules {
-        let (written, sheet) = made(file)?;
-        own.push(answers::of(&written).map_err(|why| format!("{}: {}", file, why))?);
+        let (rule, sheet) = made(file)?;
+        own.push(answers::of(&rule));
         sheets.push(sheet);
     }
     for ((file, own), said) in rules.iter().zip(&own).zip(oracle::answers(oracle, &sheets)) {

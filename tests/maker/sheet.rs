@@ -2,39 +2,13 @@
 
 use crate::layout::*;
 use crate::rule::{kind_numbered, Rule, Tree, Variable, CONSTANT, VARIABLE};
-use crate::text::{Spoil, Written};
 
 fn signed(sheet: &[u8], place: usize) -> i64 {
     i64::from(number_at(sheet, place) as i16)
 }
 
-/// The sheet that a rule's text asks for, or why there is none.
-pub fn made(written: &Written) -> Result<Vec<u8>, String> {
-    let mut sheet = right(&written.rule);
-    for spoil in &written.spoils {
-        if let Spoil::Edition(edition) = spoil {
-            sheet[0] = *edition;
-        }
-    }
-    seal(&mut sheet);
-    for spoil in &written.spoils {
-        match *spoil {
-            Spoil::Edition(_) => {}
-            Spoil::Byte(byte, value) if byte < sheet.len() && sheet[byte] != value => sheet[byte] = value,
-            Spoil::Byte(byte, value) => {
-                return Err(format!("byte {} of {} bytes can't become {}", byte, sheet.len(), value));
-            }
-            Spoil::Length(length) if length < sheet.len() => sheet.truncate(length),
-            Spoil::Length(length) => {
-                return Err(format!("{} bytes can't be cut after {}", sheet.len(), length));
-            }
-        }
-    }
-    Ok(sheet)
-}
-
-/// The rule's own sheet.
-fn right(rule: &Rule) -> Vec<u8> {
+/// The rule's sheet, whether a reader accepts it or not.
+pub fn made(rule: &Rule) -> Vec<u8> {
     let record =
         |variable: &Variable| variable_record(variable.least, variable.greatest, variable.name.as_bytes());
     let mut nodes = Vec::new();

@@ -3,6 +3,7 @@
 use crate::blocks;
 use crate::cases;
 use crate::limits::MOST_BYTES;
+use crate::making;
 use crate::reading::{self, refuse, Refusal, Rule};
 use crate::replies::{self, Reply};
 use crate::script;
@@ -39,6 +40,7 @@ pub struct Asked {
     script: Option<String>,
     asking: Option<String>,
     replied: Option<Result<Reply, Refusal>>,
+    made: Option<Result<Vec<u8>, Refusal>>,
 }
 
 impl Asked {
@@ -53,6 +55,7 @@ impl Asked {
             script: None,
             asking: None,
             replied: None,
+            made: None,
         }
     }
 
@@ -80,6 +83,17 @@ impl Asked {
             }
             8 => alone(code(self.reply())),
             9 => alone(self.digits(number)),
+            10..=13 => {
+                let mut room = Room::lent(number, 1);
+                let said = match subject {
+                    10 => self.made(),
+                    11 => text_of(&self.sheet),
+                    12 => self.made().and_then(|sheet| text_of(&sheet)),
+                    _ => text_of(&self.sheet).and_then(|text| making::make(&text)),
+                };
+                let said = code(said.and_then(|bytes| write(&bytes, &mut room)));
+                with_room(said, room)
+            }
             _ => panic!("no question has subject {}", subject),
         }
     }
@@ -123,12 +137,17 @@ impl Asked {
     /// The bytes written.
     fn write_script(&mut self, room: &mut Room) -> Result<u64, Refusal> {
         let rule = self.reading.as_ref().map_err(|&refusal| refusal)?;
-        write(self.script.get_or_insert_with(|| script::script(rule)), room)
+        write(self.script.get_or_insert_with(|| script::script(rule)).as_bytes(), room)
     }
 
     fn write_asking(&mut self, room: &mut Room) -> Result<u64, Refusal> {
         let rule = self.reading.as_ref().map_err(|&refusal| refusal)?;
-        write(self.asking.get_or_insert_with(|| script::asking(rule)), room)
+        write(self.asking.get_or_insert_with(|| script::asking(rule)).as_bytes(), room)
+    }
+
+    /// The sheet that the bytes in the sheet's place say, taken as a plain text.
+    fn made(&mut self) -> Result<Vec<u8>, Refusal> {
+        self.made.get_or_insert_with(|| making::make(&self.sheet)).clone()
     }
 
     fn replied(&mut self) -> Result<&Reply, Refusal> {
@@ -156,22 +175,51 @@ impl Asked {
 }
 
 /// Gives the bytes written.
-fn write(script: &str, room: &mut Room) -> Result<u64, Refusal> {
-    if room.length < script.len() {
-        return refuse(9, script.len());
+fn write(bytes: &[u8], room: &mut Room) -> Result<u64, Refusal> {
+    if room.length < bytes.len() {
+        return refuse(9, bytes.len());
     }
-    room.put(script.as_bytes());
-    Ok(script.len() as u64)
+    room.put(bytes);
+    Ok(bytes.len() as u64)
 }
 
-/// What the program writes about an input when asked with this word.
+fn text_of(sheet: &[u8]) -> Result<Vec<u8>, Refusal> {
+    making::text(&reading::read(sheet)?).map(String::into_bytes)
+}
+
+/// What the program writes about a sheet when asked with this word.
 pub fn said(word: &str, input: &[u8]) -> String {
     or_refused(answer_to(word, as_far_as_read(input)))
 }
 
-/// What the program writes about a sheet and a reply to it.
-pub fn said_of_reply(input: &[u8], reply: &[u8]) -> String {
-    or_refused(answer_to_reply(as_far_as_read(input), reply))
+/// What the program writes about a file when asked with this word: a name that ends in .rule is a text's.
+pub fn said_of_file(word: &str, name: &[u8], input: &[u8]) -> Vec<u8> {
+    if word != "make" && !(word != "text" && name.ends_with(b".rule")) {
+        return said(word, input).into_bytes();
+    }
+    match making::make(input) {
+        Ok(sheet) if word == "make" => sheet,
+        Ok(sheet) => said(word, &sheet).into_bytes(),
+        Err(refusal) => refused_text(input, refusal).into_bytes(),
+    }
+}
+
+/// What the program writes about a sheet, or the text of one, and a reply to it.
+pub fn said_of_reply(name: &str, input: &[u8], reply: &[u8]) -> String {
+    match name.ends_with(".rule").then(|| making::make(input)) {
+        None => or_refused(answer_to_reply(as_far_as_read(input), reply)),
+        Some(Ok(sheet)) => or_refused(answer_to_reply(&sheet, reply)),
+        Some(Err(refusal)) => refused_text(input, refusal),
+    }
+}
+
+/// The refusal of a text, and where in it.
+fn refused_text(text: &[u8], refusal: Refusal) -> String {
+    let line = or_refused(Err(refusal));
+    match making::pointed_at(text, refusal).map(|place| making::line_and_column(text, place)) {
+        Some((row, column)) => format!("{} (line {} column {})\n", line.trim_end(), row, column),
+        None => line,
+    }
 }
 
 fn as_far_as_read(input: &[u8]) -> &[u8] {
@@ -196,6 +244,7 @@ fn answer_to(word: &str, sheet: &[u8]) -> Result<String, Refusal> {
         "read" => Ok("accepted\n".to_string()),
         "script" => Ok(script::script(&rule)),
         "ask" => Ok(script::asking(&rule)),
+        "text" => making::text(&rule),
         "check" => Ok(checked(&rule, cases::first_failure(&rule, cases::count(&rule)?))),
         "tally" => {
             let (held, failed) = cases::tally(&rule, cases::count(&rule)?);

@@ -11,6 +11,11 @@ pub fn content(sheet: &[u8], k: u64) -> Option<&[u8]> {
     (stored == check(content, k)).then_some(content)
 }
 
+/// The whole block k with this content.
+pub fn with_check(content: &[u8], k: u64) -> Vec<u8> {
+    [content, &(check(content, k) as u16).to_le_bytes()].concat()
+}
+
 fn check(content: &[u8], k: u64) -> u128 {
     let sum: u64 = content.iter().zip(1..).map(|(&byte, weight)| weight * u64::from(byte)).sum();
     (u128::from(k) + 1 + u128::from(sum)) % u128::from(MODULUS)

@@ -1,16 +1,18 @@
-// The oracle: reads trials on standard input and writes the answers that documents 01 and 02 (item 1) demand.
+// The oracle: reads trials on standard input and writes the answers that documents 01 and 02 (items 1 and 4) demand.
 // Written from these alone; with the library and the tests' sheets it shares no code, only the limits' names.
 //
 //   oracle             answers the questions of each trial
 //   oracle program     writes what the program writes, with the same standard input
 //   oracle words WORD FILE..       writes what the program writes when called with these; after 'reply' they are
-//                                  one sheet and one reply
+//                                  one sheet and one reply. After 'make', and where its name ends in .rule, a file
+//                                  is a plain text
 //   oracle sheets EVERY FOLDER     writes the sheet of every EVERYth trial to a file of its own
 //   oracle pairs EVERY FOLDER      the same, and behind .reply the reply
 //
 // A trial is: sheet length, reply length, number of questions (u32 each), the sheet, the reply, then for each question
-// its subject (one byte: 1 read, 2 name, 3 block, 4 check, 5 tally, 6 script, 7 ask, 8 reply, 9 digits) and a number
-// (u64). Where the reply isn't asked about, it has no bytes. An answer is a u64 and,
+// its subject (one byte: 1 read, 2 name, 3 block, 4 check, 5 tally, 6 script, 7 ask, 8 reply, 9 digits, 10 make, 11
+// text, 12 the text of what make makes, 13 what make makes of the text) and a number (u64). For 10 and 12 a plain text
+// stands in the sheet's place. Where the reply isn't asked about, it has no bytes. An answer is a u64 and,
 // where the question lends a room, the whole room afterwards. All little-endian. For a room, the number's
 // low 32 bits are its length and the high 32 a pattern: byte i of the room is first the highest byte of
 // pattern * (2 i + 1), taken modulo 2^32.
@@ -20,9 +22,11 @@ mod blocks;
 mod cases;
 #[path = "../limits.rs"]
 mod limits;
+mod making;
 mod reading;
 mod replies;
 mod script;
+mod texts;
 mod trees;
 mod variables;
 
@@ -46,7 +50,8 @@ fn main() -> io::Result<()> {
             output.write_all(answers::said("script", &bytes).as_bytes())?;
         }
         ["words", "reply", sheet, reply] => {
-            output.write_all(answers::said_of_reply(&fs::read(sheet)?, &fs::read(reply)?).as_bytes())?
+            let said = answers::said_of_reply(sheet, &fs::read(sheet)?, &fs::read(reply)?);
+            output.write_all(said.as_bytes())?
         }
         ["words", word, ..] => answer_words(word, &words[2..], &mut output)?,
         ["sheets", every, folder] => write_sheets(&mut input, every.parse().unwrap(), folder, false)?,
@@ -62,7 +67,7 @@ fn answer_words(word: &str, files: &[OsString], output: &mut impl Write) -> io::
             output.write_all(file.as_bytes())?;
             output.write_all(b": ")?;
         }
-        output.write_all(answers::said(word, &fs::read(file)?).as_bytes())?;
+        output.write_all(&answers::said_of_file(word, file.as_bytes(), &fs::read(file)?))?;
     }
     Ok(())
 }

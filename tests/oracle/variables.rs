@@ -43,7 +43,7 @@ fn is_name(text: &str) -> bool {
 }
 
 /// The one record that says this; any other byte in the sheet's record breaks a rule.
-fn written(variable: &Variable) -> Vec<u8> {
+pub fn written(variable: &Variable) -> Vec<u8> {
     let mut record = vec![0; 24];
     record[..2].copy_from_slice(&(variable.least as i16).to_le_bytes());
     record[2..4].copy_from_slice(&(variable.greatest as i16).to_le_bytes());

@@ -43,7 +43,7 @@ fn ask_names(out: &mut Output, label: &str, sheet: &[u8], expected: Expected, le
 }
 
 /// Makes the fault with this number, at which no name may be handed back, and gives its place.
-fn spoil(sheet: &mut Vec<u8>, number: u64) -> usize {
+pub fn spoil(sheet: &mut Vec<u8>, number: u64) -> usize {
     match number {
         1 => sheet.truncate(sheet.len() - 1),
         2 => sheet[CONTENT] ^= 1,

@@ -2,6 +2,7 @@
 
 use crate::layout::{lay_out, variable_record, VariableRecord};
 use crate::limits::{LONGEST_NAME, MOST_NODES, MOST_VARIABLES};
+use crate::plain::is_word;
 use crate::random::Random;
 use crate::trees::*;
 
@@ -64,7 +65,7 @@ impl<'r> Grower<'r> {
         self.variables.len() - 1
     }
 
-    /// A name that no variable has yet; often one that is nearly another's.
+    /// A name that no variable has yet, and no word of a text; often one that is nearly another's.
     fn name(&mut self, length: usize) -> Vec<u8> {
         let near = !self.variables.is_empty() && self.random.one_in(3);
         let name = if near { self.near_name() } else { self.fresh_name(length) };
@@ -76,7 +77,7 @@ impl<'r> Grower<'r> {
     }
 
     fn is_taken(&self, name: &[u8]) -> bool {
-        self.variables.iter().any(|variable| variable.name == name)
+        is_word(name) || self.variables.iter().any(|variable| variable.name == name)
     }
 
     /// A name of exactly this length that no variable has yet.

@@ -34,6 +34,8 @@ mod limits;
 mod met;
 mod nodes;
 mod places;
+mod plain;
+mod printing;
 mod question;
 mod random;
 mod ranges;
@@ -55,6 +57,13 @@ mod scripts;
 mod shape_sheets;
 mod shapes;
 mod solver_sheets;
+mod text_damage;
+mod text_edges;
+mod text_long;
+mod text_met;
+mod text_questions;
+mod text_required;
+mod texts;
 mod trees;
 mod trial;
 mod variables;
@@ -73,7 +82,7 @@ use trial::{Output, Part, PARTS};
 type Make = fn(&mut Random, &mut Output);
 
 /// The groups of each part; the first one of a part is small.
-const GROUPS: [(Part, &str, Make); 52] = [
+const GROUPS: [(Part, &str, Make); 68] = [
     (Part::Reading, "edge-cases", edges::make),
     (Part::Reading, "accepted", accepted::make),
     (Part::Reading, "every-shape", shape_sheets::make),
@@ -126,6 +135,22 @@ const GROUPS: [(Part, &str, Make); 52] = [
     (Part::Replies, "replies-shapes", shape_sheets::make),
     (Part::Replies, "replies-at-random", reply_random::make),
     (Part::Replies, "replies-refused-sheets", refused_sheets),
+    (Part::Make, "make-edge-cases", text_edges::make),
+    (Part::Make, "make-printed", texts::printed_forms),
+    (Part::Make, "make-refused", texts::refused_rules),
+    (Part::Make, "make-numbers", texts::numbers),
+    (Part::Make, "make-names", texts::names),
+    (Part::Make, "make-damaged", text_damage::damaged),
+    (Part::Make, "make-every-byte", text_damage::every_byte),
+    (Part::Make, "make-lines", text_damage::lines),
+    (Part::Make, "make-at-random", text_damage::at_random),
+    (Part::Make, "make-shapes", text_long::shapes),
+    (Part::Make, "make-long", text_long::long),
+    (Part::Text, "text-edge-cases", text_edges::print),
+    (Part::Text, "text-any", printing::any),
+    (Part::Text, "text-word-names", printing::word_names),
+    (Part::Text, "text-shapes", shape_sheets::make),
+    (Part::Text, "text-refused-sheets", some_refused_sheets),
 ];
 
 /// Sheets refused with 1 to 8, put to the calls of another part.
@@ -140,6 +165,20 @@ fn refused_sheets(random: &mut Random, out: &mut Output) {
         nodes::refusal_7,
         ranges::make,
         places::make,
+        at_once::make,
+    ];
+    makes.iter().for_each(|make| make(random, out));
+}
+
+/// Some of them, each number among them, for a call that begins with the same reading.
+fn some_refused_sheets(random: &mut Random, out: &mut Output) {
+    out.thin(6);
+    let makes: [Make; 6] = [
+        whole_sheet::refusal_1,
+        whole_sheet::refusal_3,
+        variables::make,
+        nodes::refusal_6,
+        nodes::refusal_7,
         at_once::make,
     ];
     makes.iter().for_each(|make| make(random, out));

@@ -6,6 +6,7 @@ use crate::limits::*;
 use crate::question::{Answer, Question};
 use crate::reply_met;
 use crate::script_questions::ROOM_OF_01;
+use crate::text_met;
 use crate::trees::KINDS;
 
 /// `first` is the answer to the trial's first question: the reading of the sheet, or of the reply.
@@ -21,6 +22,10 @@ pub fn kinds_of_answer(trial: &Trial, question: Question, answer: &Answer, first
         Question::Ask(_) => kinds_of_script("ask", sheet, answer),
         Question::Reply => reply_met::kinds_of_reply(trial, answer),
         Question::Digits(variable) => reply_met::kinds_of_digits(variable, answer.said, first),
+        Question::Make(_) => text_met::kinds_of_make(trial, answer),
+        Question::Text(_) => text_met::kinds_of_text(trial, answer),
+        Question::MakeText(_) => text_met::kinds_of_make_text(trial, answer),
+        Question::TextMake(_) => text_met::kinds_of_text_make(trial, answer),
     }
 }
 

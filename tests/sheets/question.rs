@@ -29,6 +29,12 @@ pub enum Question {
     Ask(Room),
     Reply,
     Digits(u16),
+    Make(Room),
+    Text(Room),
+    /// The text of what is made of a text.
+    MakeText(Room),
+    /// What is made of a sheet's text.
+    TextMake(Room),
 }
 
 impl Question {
@@ -43,6 +49,10 @@ impl Question {
             Question::Ask(room) => (7, room.number()),
             Question::Reply => (8, 0),
             Question::Digits(variable) => (9, variable.into()),
+            Question::Make(room) => (10, room.number()),
+            Question::Text(room) => (11, room.number()),
+            Question::MakeText(room) => (12, room.number()),
+            Question::TextMake(room) => (13, room.number()),
         }
     }
 
@@ -57,26 +67,33 @@ impl Question {
             7 => Question::Ask(Room::from(number)),
             8 => Question::Reply,
             9 => Question::Digits(number as u16),
+            10 => Question::Make(Room::from(number)),
+            11 => Question::Text(Room::from(number)),
+            12 => Question::MakeText(Room::from(number)),
+            13 => Question::TextMake(Room::from(number)),
             _ => panic!("no question has subject {}", subject),
         }
     }
 
     /// The lent room's bytes as they are before the call; none are lent without a room.
     pub fn filled(self) -> Vec<u8> {
-        let pattern = match self {
-            Question::Check(room) | Question::Script(room) | Question::Ask(room) => room.pattern,
-            _ => 0,
-        };
+        let pattern = self.room().map_or(0, |room| room.pattern);
         let byte = |place: usize| pattern.wrapping_mul(2 * place as u32 + 1).to_be_bytes()[0];
         (0..self.room_bytes()).map(byte).collect()
     }
 
-    pub fn room_bytes(self) -> usize {
+    fn room(self) -> Option<Room> {
         match self {
-            Question::Check(room) => 2 * room.length,
-            Question::Script(room) | Question::Ask(room) => room.length,
-            _ => 0,
+            Question::Check(room) | Question::Script(room) | Question::Ask(room) => Some(room),
+            Question::Make(room) | Question::Text(room) => Some(room),
+            Question::MakeText(room) | Question::TextMake(room) => Some(room),
+            _ => None,
         }
+    }
+
+    pub fn room_bytes(self) -> usize {
+        let unit = if let Question::Check(_) = self { 2 } else { 1 };
+        self.room().map_or(0, |room| unit * room.length)
     }
 
     pub fn in_words(self) -> String {
@@ -90,6 +107,10 @@ impl Question {
             Question::Ask(room) => format!("ask with room for {}", room.length),
             Question::Reply => "reply".to_string(),
             Question::Digits(variable) => format!("digits {}", variable),
+            Question::Make(room) => format!("make with room for {}", room.length),
+            Question::Text(room) => format!("text with room for {}", room.length),
+            Question::MakeText(room) => format!("make, then text with room for {}", room.length),
+            Question::TextMake(room) => format!("text, then make with room for {}", room.length),
         }
     }
 }
@@ -168,7 +189,7 @@ impl Answer {
             Question::Check(_) if self.low() == 0 => "holds".to_string(),
             Question::Check(_) if self.low() == 1 => "fails".to_string(),
             Question::Tally => format!("held {}, failed {}", self.low() >> 24, self.low() % (1 << 24)),
-            Question::Script(_) | Question::Ask(_) => format!("{} bytes", self.low()),
+            _ if question.room().is_some() => format!("{} bytes", self.low()),
             Question::Reply if self.low() == 0 => "unsat claimed".to_string(),
             Question::Reply if self.low() == 1 => "fails".to_string(),
             _ => format!("{}", self.low()),

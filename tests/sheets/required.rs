@@ -5,6 +5,7 @@ use crate::case_required;
 use crate::limits::*;
 use crate::reply_required;
 use crate::script_required;
+use crate::text_required;
 use crate::trial::Part;
 use std::collections::BTreeSet;
 
@@ -20,6 +21,8 @@ pub fn of(parts: &[Part]) -> BTreeSet<String> {
             Part::Script => script_required::of_script(&mut all),
             Part::Ask => reply_required::of_ask(&mut all),
             Part::Replies => reply_required::of_replies(&mut all),
+            Part::Make => text_required::of_make(&mut all),
+            Part::Text => text_required::of_text(&mut all),
         }
     }
     all.into_iter().collect()

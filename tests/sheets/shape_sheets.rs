@@ -4,11 +4,13 @@ use crate::case_questions::{self, with_outcome};
 use crate::grower::Grower;
 use crate::layout::blocks_for;
 use crate::limits::*;
+use crate::plain::written;
 use crate::random::Random;
 use crate::reply_questions::{self, Replied};
 use crate::reply_text;
 use crate::script_questions::{self, script_length};
 use crate::shapes::{balanced, chain, links, DOMAINS};
+use crate::text_questions;
 use crate::trees::*;
 use crate::trial::{Accepted, Output, Part};
 
@@ -91,7 +93,8 @@ fn put(random: &mut Random, out: &mut Output, label: &str, grow: impl FnOnce(&mu
     let domains: Vec<Range> = (0..variables).map(|_| random.pick(&DOMAINS)).collect();
     let mut grower = Grower::with_domains(random, &domains);
     let goal = grow(&mut grower);
-    let sheet = grower.sheet(&Table::of(&goal));
+    let rule = written(&grower, &goal);
+    let sheet = rule.sheet.clone();
     match out.part() {
         Part::Reading => out.put(random, &format!("accepted: {}", label), &sheet, Accepted),
         Part::Cases => {
@@ -111,5 +114,10 @@ fn put(random: &mut Random, out: &mut Output, label: &str, grow: impl FnOnce(&mu
             let questions = reply_questions::all(variables, &Replied::Unknown);
             out.ask_about(&format!("any: reply, {}", label), &sheet, &reply, &questions);
         }
+        Part::Text => {
+            let questions = text_questions::printed(random, &rule);
+            out.ask_all(&format!("accepted: print, {}", label), &sheet, &questions);
+        }
+        Part::Make => unreachable!("sheets are no texts"),
     }
 }

@@ -1,4 +1,4 @@
-// A trial: a sheet, a reply, the questions about them, and what is known beforehand of the answers.
+// A trial: a sheet or a plain text, a reply, the questions about them, and what is known beforehand of the answers.
 
 use crate::case_questions;
 use crate::layout::VARIABLE_COUNT;
@@ -7,6 +7,7 @@ use crate::question::{Known, Question};
 use crate::random::Random;
 use crate::reply_questions;
 use crate::script_questions::{self, Form};
+use crate::text_questions;
 use std::fs::File;
 use std::io::{BufWriter, Write};
 
@@ -37,14 +38,18 @@ pub enum Part {
     Script,
     Ask,
     Replies,
+    Make,
+    Text,
 }
 
-pub const PARTS: [(&str, Part); 5] = [
+pub const PARTS: [(&str, Part); 7] = [
     ("reading", Part::Reading),
     ("cases", Part::Cases),
     ("script", Part::Script),
     ("ask", Part::Ask),
     ("replies", Part::Replies),
+    ("make", Part::Make),
+    ("text", Part::Text),
 ];
 
 /// Block numbers whose place in bytes, or whose k + 1, leaves one width of number or another.
@@ -79,27 +84,44 @@ pub type Asked = (Question, Option<Known>);
 /// Where trials go: the sheets, replies and questions to one file, what is known of them to another.
 pub struct Output {
     part: Part,
+    /// One in so many sheets is put, the others are left out.
+    one_in: usize,
     trials: BufWriter<File>,
     notes: BufWriter<File>,
 }
 
 impl Output {
     pub fn new(part: Part, trials: File, notes: File) -> Output {
-        Output { part, trials: BufWriter::with_capacity(1 << 20, trials), notes: BufWriter::new(notes) }
+        Output {
+            part,
+            one_in: 1,
+            trials: BufWriter::with_capacity(1 << 20, trials),
+            notes: BufWriter::new(notes),
+        }
     }
 
-    /// Puts a sheet with a few questions at random.
+    /// Puts a sheet, or a text where these are asked about, with a few questions at random.
     pub fn put(&mut self, random: &mut Random, label: &str, sheet: &[u8], expected: Expected) {
+        if self.one_in > 1 && !random.one_in(self.one_in) {
+            return;
+        }
         let questions = match self.part {
             Part::Reading => reading_questions(random, sheet, expected),
             Part::Cases => case_questions::any(random, sheet, expected),
             Part::Script | Part::Ask => script_questions::any(random, self.form(), expected),
+            Part::Make => text_questions::any_text(random, expected),
+            Part::Text => text_questions::any_sheet(random, expected),
             Part::Replies => {
                 let (reply, questions) = reply_questions::any(random, sheet, expected);
                 return self.ask_about(label, sheet, &reply, &questions);
             }
         };
         self.ask_all(label, sheet, &questions);
+    }
+
+    /// From here on, leaves out all but one in so many of what `put` is given.
+    pub fn thin(&mut self, one_in: usize) {
+        self.one_in = one_in;
     }
 
     pub fn part(&self) -> Part {
