@@ -18,7 +18,7 @@ use Rattle.grammar.specs.Words.{wordLength, reachFrom}
 use Rattle.grammar.proofs.ScanLaws.{reach-on, reach-off, reach-end}
 use Rattle.texts.specs.Numbers.{isNumber}
 use Rattle.texts.specs.WordKinds.{worded}
-use Rattle.texts.specs.Places.{separates, firstWord, behindLine, nameStart, namesIn, beginning, beginsAny, plainWords, beginsNumber, beginsName}
+use Rattle.texts.specs.Places.{separates, firstWord, behindLine, behindVar, namesIn, beginning, beginsAny, plainWords, beginsNumber, beginsName}
 
 -- ---- bytes that begin a word
 
@@ -90,7 +90,7 @@ pub record Comparing (text u : List ℕ) (count line i : ℕ) : Type 0 where
 pub comparing-begin : (text u : List ℕ) (count : ℕ) → Comparing text u count 0 0
 comparing-begin text u count = record { within = omega arith; inside = omega arith; same = let e : count ≡ count - 0 = omega arith in ap (λ (n : ℕ). beginsAny (namesIn n text) u) e }
 
-first-name : (m : ℕ) (s u : List ℕ) → beginsAny (namesIn (suc m) s) u ≡ beginning u (firstWord (drop nameStart s)) || beginsAny (namesIn m (behindLine s)) u
+first-name : (m : ℕ) (s u : List ℕ) → beginsAny (namesIn (suc m) s) u ≡ beginning u (firstWord (drop behindVar s)) || beginsAny (namesIn m (behindLine s)) u
 unfolding beginsAny namesIn
 first-name m s u = refl
 
@@ -99,8 +99,8 @@ unfolding beginsAny namesIn
 no-name s u = refl
 
 module _ {text u : List ℕ} {count line i : ℕ} (w : Comparing text u count line i) where
-  module _ {name : List ℕ} {b : Bool} (h : i < count) (n : name ≡ firstWord (drop nameStart (drop line text))) (e : b ≡ beginning u name) where
-    tested : beginning u (firstWord (drop nameStart (drop line text))) ≡ b
+  module _ {name : List ℕ} {b : Bool} (h : i < count) (n : name ≡ firstWord (drop behindVar (drop line text))) (e : b ≡ beginning u name) where
+    tested : beginning u (firstWord (drop behindVar (drop line text))) ≡ b
     tested = sym (e ∙ ap (beginning u) n)
 
     one-more : beginsAny (namesIn count text) u ≡ b || beginsAny (namesIn (count - suc i) (behindLine (drop line text))) u

@@ -22,7 +22,7 @@ use Rattle.grammar.proofs.PatternLaws.{silent}
 use Rattle.texts.specs.Texts.{operandsBehind}
 use Rattle.texts.specs.Numbers.{isNumber}
 use Rattle.texts.specs.WordKinds.{behindWord, kindNamed}
-use Rattle.texts.specs.Places.{separates, firstWord, isPlainName, indexIn, isDeclared, orNone, operandsOf, behindLine, nameStart, namesIn, Place, line, named, least, most, operand, done, onward, pending, allowed}
+use Rattle.texts.specs.Places.{separates, firstWord, isPlainName, indexIn, isDeclared, orNone, operandsOf, behindLine, behindVar, namesIn, Place, line, named, least, most, operand, done, onward, pending, allowed}
 use Rattle.texts.proofs.ScanLaws.{first-length, next-separates}
 use Rattle.words.specs.Operands.{counted}
 use Rattle.words.proofs.Scanning.{word-over, word-more, line-over, line-more}
@@ -118,10 +118,10 @@ unfolding behindLines
 behind-more zero s = refl
 behind-more (suc d) s = behind-more d (behindLine s)
 
-names-more : (d : ℕ) (s : List ℕ) → namesIn d s ++ (firstWord (drop nameStart (behindLines d s)) ∷ []) ≡ namesIn (suc d) s
+names-more : (d : ℕ) (s : List ℕ) → namesIn d s ++ (firstWord (drop behindVar (behindLines d s)) ∷ []) ≡ namesIn (suc d) s
 unfolding namesIn behindLines
 names-more zero s = refl
-names-more (suc d) s = ap (λ (l : List (List ℕ)). firstWord (drop nameStart s) ∷ l) (names-more d (behindLine s))
+names-more (suc d) s = ap (λ (l : List (List ℕ)). firstWord (drop behindVar s) ∷ l) (names-more d (behindLine s))
 
 -- the byte behind a word, and what stands behind that
 abbrev byteBehind : List ℕ → ℕ
@@ -191,7 +191,7 @@ module _ (s : List ℕ) (d n : ℕ) (t w : List ℕ) (e : w ≡ firstWord t) whe
           (cond a (to 32 Named 0 d) (cond b (to 32 Operand 0 d) nowhere))
       go true b h =
           way refl
-          (λ q. (ap (drop nameStart) l ∙ ap (λ (m : ℕ). drop (suc m) t) (sym (as-long (ascii "var") h)), ap behindLine l ∙ line-goes t q))
+          (λ q. (ap (drop behindVar) l ∙ ap (λ (m : ℕ). drop (suc m) t) (sym (as-long (ascii "var") h)), ap behindLine l ∙ line-goes t q))
           (omega arith)
           (omega arith)
       go false true h = way refl (λ q. tt) (omega arith) (omega arith)

@@ -11,7 +11,7 @@ use Rattle.lists.specs.Names.{sameBytes}
 use Rattle.grammar.specs.Words.{wordLength}
 use Rattle.grammar.specs.Words as words
 use Rattle.texts.specs.Numbers.{isNumber}
-use Rattle.texts.specs.Places.{separates, firstWord, isPlainName, operandsOf, behindLine, nameStart, namesIn, Place, line, named, least, most, operand, done, allowed, reach}
+use Rattle.texts.specs.Places.{separates, firstWord, isPlainName, operandsOf, behindLine, behindVar, namesIn, Place, line, named, least, most, operand, done, allowed, reach}
 use Rattle.words.specs.Operands.{counted}
 use Rattle.scan.specs.declared.Phase.{Phase}
 use Rattle.scan.specs.declared.Phase.the-variants.{Line, Named, Least, Most, Operand, Done}
@@ -48,7 +48,7 @@ behindLines (suc n) s = behindLines n (behindLine s)
 -- how the lines of n names lie in the text s, of which t is left
 abbrev pub LinesAt : Phase → ℕ → List ℕ → List ℕ → Type 0
 LinesAt Line n s t = behindLines n s ≡ t
-LinesAt Named n s t = (drop nameStart (behindLines n s) ≡ t) × (behindLine (behindLines n s) ≡ behindLine t)
+LinesAt Named n s t = (drop behindVar (behindLines n s) ≡ t) × (behindLine (behindLines n s) ≡ behindLine t)
 LinesAt Least n s t = behindLines n s ≡ behindLine t
 LinesAt Most n s t = behindLines n s ≡ behindLine t
 LinesAt Operand n s t = Unit {0}

@@ -16,7 +16,7 @@ use Rattle.numbers.specs.Decimal.{signed}
 use Rattle.meaning.specs.Rule.{Variable}
 use Rattle.grammar.specs.Words.{Without, wordLength}
 use Rattle.texts.specs.Plain.{nameOf, variableLine}
-use Rattle.texts.specs.Texts.{PlainName, Declarable, AllDeclarable, FirstNamed}
+use Rattle.texts.specs.Texts.{PlainName, Declarable, AllDeclarable, FirstDeclared}
 use Rattle.texts.specs.Places.{separates, firstWord, indexIn, isDeclared, behindLine, namesIn}
 use Rattle.texts.proofs.SpellingLaws.{space-separates, feed-separates, number-unbroken, name-unbroken}
 
@@ -85,14 +85,14 @@ declared-name (v ∷ vs) (suc i) d l = declared-name vs i (d .1) (omega arith)
 other : {n w : List ℕ} → (n ≡ w → ⊥) → sameBytes n w ≡ false
 other {n} {w} f = denied (same-decided n w) .1 f
 
-pub index-first : (vs : List Variable) (i : ℕ) → FirstNamed vs i → indexIn (namesOf vs) (nameOf vs i) ≡ i
+pub index-first : (vs : List Variable) (i : ℕ) → FirstDeclared vs i → indexIn (namesOf vs) (nameOf vs i) ≡ i
 unfolding indexIn
 index-first [] i f = absurd (omega (arith, f .declared))
 index-first (v ∷ vs) zero f = rw (same-decided (v .name) (v .name) .1 refl, indexIn)
 index-first (v ∷ vs) (suc i) f =
     rw (other (f .first 0 (omega arith)), indexIn) (ap suc (index-first vs i (record { declared = omega (arith, f .declared); first = λ j l. f .first (suc j) (omega arith) })))
 
-pub first-declared : (vs : List Variable) (i : ℕ) → FirstNamed vs i → isDeclared (namesOf vs) (nameOf vs i) ≡ true
+pub first-declared : (vs : List Variable) (i : ℕ) → FirstDeclared vs i → isDeclared (namesOf vs) (nameOf vs i) ≡ true
 unfolding isDeclared
 first-declared vs i f = rw (index-first vs i f, names-count vs) (lt-ltb i (length vs) (f .declared))
 
@@ -119,7 +119,7 @@ module _ (w : List ℕ) where
       by true h more l = same-decided (v .name) w .0 h
       by false h more l = more (omega arith)
 
-pub index-named : (vs : List Variable) (w : List ℕ) → isDeclared (namesOf vs) w ≡ true → FirstNamed vs (indexIn (namesOf vs) w) × (nameOf vs (indexIn (namesOf vs) w) ≡ w)
+pub index-named : (vs : List Variable) (w : List ℕ) → isDeclared (namesOf vs) w ≡ true → FirstDeclared vs (indexIn (namesOf vs) w) × (nameOf vs (indexIn (namesOf vs) w) ≡ w)
 unfolding isDeclared
 index-named vs w e =
     let l : indexIn (namesOf vs) w < length vs = rw (names-count vs) at (ltb-true (indexIn (namesOf vs) w) (length (namesOf vs)) e) in

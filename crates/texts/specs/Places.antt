@@ -53,12 +53,12 @@ behindLine [] = []
 behindLine (c ∷ s) = elim (eqb c 10) [ true ↦ s | false ↦ behindLine s ]
 
 -- a line's second word: the one behind `var` and a space
-abbrev pub nameStart : ℕ
-nameStart = 4
+abbrev pub behindVar : ℕ
+behindVar = 4
 
 unfoldable pub namesIn : ℕ → List ℕ → List (List ℕ)
 namesIn zero s = []
-namesIn (suc n) s = firstWord (drop nameStart s) ∷ namesIn n (behindLine s)
+namesIn (suc n) s = firstWord (drop behindVar s) ∷ namesIn n (behindLine s)
 
 -- ---- places
 

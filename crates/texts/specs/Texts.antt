@@ -15,7 +15,7 @@ use Rattle.records.specs.Names.{Name}
 use Rattle.texts.specs.Expressions.{Expression, bare, number, variable, one, two, three, Draft}
 use Rattle.texts.specs.Plain.{plainOf, nameOf, printed}
 
--- the bytes are some kind's plain word
+-- the bytes are some kind's plain word; kinds without one have the empty one, which no name is
 pub record Word (w : List ℕ) : Type 0 where
   pub kind : Kind
   pub text : plainOf kind ≡ w
@@ -36,7 +36,7 @@ AllDeclarable [] = Unit {0}
 AllDeclarable (v ∷ vs) = Declarable v × AllDeclarable vs
 
 -- variable i is declared, and no variable before it has its name
-pub record FirstNamed (vs : List Variable) (i : ℕ) : Type 0 where
+pub record FirstDeclared (vs : List Variable) (i : ℕ) : Type 0 where
   pub declared : i < length vs
   pub first : (j : ℕ) → j < i → nameOf vs j ≡ nameOf vs i → ⊥
 
@@ -57,7 +57,7 @@ Takes n k = operandsBehind (row k .shape) ≡ some n
 abbrev pub Writable : List Variable → Expression → Type 0
 Writable vs (bare k) = Takes 0 k
 Writable vs (number z) = Narrow z
-Writable vs (variable i) = FirstNamed vs i
+Writable vs (variable i) = FirstDeclared vs i
 Writable vs (one k a) = Takes 1 k × Writable vs a
 Writable vs (two k a b) = Takes 2 k × Writable vs a × Writable vs b
 Writable vs (three k a b c) = Takes 3 k × Writable vs a × Writable vs b × Writable vs c

@@ -21,7 +21,7 @@ use Rattle.texts.specs.Plain.{plainOf}
 use Rattle.texts.specs.Texts.{operandsBehind}
 use Rattle.words.specs.Operands.{counted}
 use Rattle.texts.specs.WordKinds.{kindIn, kindNamed, isNone}
-use Rattle.texts.specs.Places.{separates, firstWord, isPlainName, indexIn, behindLine, nameStart, namesIn}
+use Rattle.texts.specs.Places.{separates, firstWord, isPlainName, indexIn, behindLine, behindVar, namesIn}
 
 -- ---- kinds
 
@@ -64,13 +64,13 @@ module _ (w : List ℕ) where
 -- ---- the name of a line
 
 module _ (s : List ℕ) (line : ℕ) where
-  pub name-past : length s - line < nameStart → (length s ≤ length s) × (drop (length s) s ≡ drop nameStart (drop line s))
-  name-past h = (omega arith, drop-of-length-le s {i = length s} (omega arith) ∙ sym (drop-drop nameStart line s ∙ drop-of-length-le s {i = line + nameStart} (omega arith)))
+  pub name-past : length s - line < behindVar → (length s ≤ length s) × (drop (length s) s ≡ drop behindVar (drop line s))
+  name-past h = (omega arith, drop-of-length-le s {i = length s} (omega arith) ∙ sym (drop-drop behindVar line s ∙ drop-of-length-le s {i = line + behindVar} (omega arith)))
 
-  pub name-there : line ≤ length s → nameStart ≤ length s - line → (line + nameStart ≤ length s) × (drop (line + nameStart) s ≡ drop nameStart (drop line s))
-  name-there l h = (omega arith, sym (drop-drop nameStart line s))
+  pub name-there : line ≤ length s → behindVar ≤ length s - line → (line + behindVar ≤ length s) × (drop (line + behindVar) s ≡ drop behindVar (drop line s))
+  name-there l h = (omega arith, sym (drop-drop behindVar line s))
 
-  pub word-there : (start : ℕ) {end : ℕ} → drop start s ≡ drop nameStart (drop line s) → end ≡ start + wordLength separates (drop start s) → take (end - start) (drop start s) ≡ firstWord (drop nameStart (drop line s))
+  pub word-there : (start : ℕ) {end : ℕ} → drop start s ≡ drop behindVar (drop line s) → end ≡ start + wordLength separates (drop start s) → take (end - start) (drop start s) ≡ firstWord (drop behindVar (drop line s))
   unfolding firstWord
   word-there start {end} e f =
       let n : end - start ≡ wordLength separates (drop start s) = omega arith in
@@ -82,11 +82,11 @@ end-inside s start h e = omega (arith, word-inside separates (drop start s), len
 
 -- ---- names, one line after the other
 
-name-first : (m : ℕ) (s w : List ℕ) → sameBytes (firstWord (drop nameStart s)) w ≡ true → indexIn (namesIn (suc m) s) w ≡ 0
+name-first : (m : ℕ) (s w : List ℕ) → sameBytes (firstWord (drop behindVar s)) w ≡ true → indexIn (namesIn (suc m) s) w ≡ 0
 unfolding indexIn namesIn
 name-first m s w e = rw (e, indexIn)
 
-name-later : (m : ℕ) (s w : List ℕ) → sameBytes (firstWord (drop nameStart s)) w ≡ false → indexIn (namesIn (suc m) s) w ≡ suc (indexIn (namesIn m (behindLine s)) w)
+name-later : (m : ℕ) (s w : List ℕ) → sameBytes (firstWord (drop behindVar s)) w ≡ false → indexIn (namesIn (suc m) s) w ≡ suc (indexIn (namesIn m (behindLine s)) w)
 unfolding indexIn namesIn
 name-later m s w e = rw (e, indexIn)
 
@@ -104,8 +104,8 @@ pub naming-begin : (text word : List ℕ) (count : ℕ) → Naming text word cou
 naming-begin text word count = record { within = omega arith; inside = omega arith; same = let e : count ≡ count - 0 = omega arith in ap (λ (n : ℕ). indexIn (namesIn n text) word) e ∙ sym (zero-add _) }
 
 module _ {text word : List ℕ} {count line i : ℕ} (w : Naming text word count line i) where
-  module _ {name : List ℕ} {b : Bool} (h : i < count) (n : name ≡ firstWord (drop nameStart (drop line text))) (e : b ≡ sameBytes name word) where
-    tested : sameBytes (firstWord (drop nameStart (drop line text))) word ≡ b
+  module _ {name : List ℕ} {b : Bool} (h : i < count) (n : name ≡ firstWord (drop behindVar (drop line text))) (e : b ≡ sameBytes name word) where
+    tested : sameBytes (firstWord (drop behindVar (drop line text))) word ≡ b
     tested = sym (e ∙ ap (λ (u : List ℕ). sameBytes u word) n)
 
     one-more : indexIn (namesIn (count - i) (drop line text)) word ≡ indexIn (namesIn (suc (count - suc i)) (drop line text)) word

@@ -11,7 +11,7 @@ ghost use Rattle.texts.specs.Texts.{operandsBehind};
 ghost use Rattle.grammar.specs.Words.{wordLength};
 ghost use Rattle.texts.specs.Numbers.{isDigit, allDigits, valueFrom, spareZero, isDecimal, zeroFirst, isNumber, numberOf};
 ghost use Rattle.texts.specs.WordKinds.{worded, kindIn, kindNamed};
-ghost use Rattle.texts.specs.Places.{separates, firstWord, nameStart, behindLine, isPlainName, indexIn, namesIn};
+ghost use Rattle.texts.specs.Places.{separates, firstWord, behindVar, behindLine, isPlainName, indexIn, namesIn};
 ghost use Rattle.words.specs.Operands.{counted};
 ghost use Rattle.texts.specs.Counts.{occurrences};
 use kinds::Kind;
@@ -255,7 +255,7 @@ pub fn next_line(text: &[u8], from: usize) -> usize
 // Where the name of a line starts; the text's end where the line is too short.
 fn name_place(text: &[u8], line: usize) -> usize
     requires { ⌜ line ≤ length (now text) ⌝ }
-    ensures { λ r. ⌜ (r ≤ length (now (text .entry))) × (drop r (now (text .entry)) ≡ drop nameStart (drop line (now (text .entry)))) ⌝ }
+    ensures { λ r. ⌜ (r ≤ length (now (text .entry))) × (drop r (now (text .entry)) ≡ drop behindVar (drop line (now (text .entry)))) ⌝ }
 {
     if text.len() - line < NAME_START {
         return text.len();
@@ -266,7 +266,7 @@ fn name_place(text: &[u8], line: usize) -> usize
 // The name of a line.
 pub fn name_at(text: &[u8], line: usize) -> &[u8]
     requires { ⌜ line ≤ length (now text) ⌝ }
-    ensures { λ r. ⌜ r .now ≡ firstWord (drop nameStart (drop line (now (text .entry)))) ⌝ }
+    ensures { λ r. ⌜ r .now ≡ firstWord (drop behindVar (drop line (now (text .entry)))) ⌝ }
 {
     let start = name_place(text, line);
     let end = word_end(text, start);
