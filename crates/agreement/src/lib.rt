@@ -1,1 +1,2 @@
 // No code: the theorems over the whole, and document 01's starred cases. See specs/ and proofs/.
+#![tactic(auto)]

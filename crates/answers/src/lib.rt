@@ -1,4 +1,6 @@
 // The answer to a request about a sheet, written into lent room: one line, or the script.
+#![tactic(auto)]
+
 ghost use Rattle.std.specs.Prelude.{◌≤◌, length};
 ghost use Rattle.layout.specs.Limits.{most_nodes};
 ghost use Rattle.io.specs.Counts.{IsPrefixLen};
@@ -17,7 +19,7 @@ use trial::Replied;
 use wording::ScriptForm;
 
 // What is asked of a sheet.
-#[derive(Drop)]
+#[derive(Clone, Copy)]
 pub enum Request {
     Read,
     Script,

@@ -1,4 +1,6 @@
 // The sheet in 512-byte blocks: checks, a block's content, and refusals 1 and 2.
+#![tactic(auto)]
+
 ghost use Rattle.std.specs.Prelude.{◌≡◌, ◌+◌, ◌*◌, ◌≤◌, ◌<◌, ◌^◌, length, take};
 ghost use Rattle.numbers.specs.Bytes.{byte_at};
 ghost use Rattle.layout.specs.Limits.{block_bytes, content_bytes, most_nodes};

@@ -1,4 +1,6 @@
 // The nodes of a plain text's expression, built into a sheet: operands first.
+#![tactic(auto)]
+
 ghost use Rattle.std.specs.Prelude.{◌≡◌, ◌+◌, ◌-◌, ◌≤◌, ◌<◌, true, length, take, drop};
 ghost use Rattle.numbers.specs.Two.{enc};
 ghost use Rattle.numbers.specs.Bytes.{word_limit};
@@ -14,7 +16,7 @@ use kinds::{Kind, Record, Shape};
 use numbers::NodeNumber;
 
 // Where an expression's words end, and the number of the node behind its own.
-#[derive(Drop)]
+#[derive(Clone, Copy)]
 pub struct Built {
     pub end: usize,
     pub next: usize,

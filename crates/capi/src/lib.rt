@@ -1,4 +1,6 @@
 // The C interface: the calls on numbers and slices, each answer one number. See include/ragwashin.h.
+#![tactic(auto)]
+
 ghost use Rattle.std.specs.Prelude.{◌≡◌, ◌<◌, ◌^◌, true, false};
 ghost use Rattle.layout.specs.Limits.{most_nodes};
 ghost use Rattle.wording.specs.Form.{sixteen, form_of};

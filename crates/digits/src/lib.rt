@@ -1,4 +1,6 @@
 // A variable's digits, and the numbers of all variables, in a reply that spells a case.
+#![tactic(auto)]
+
 ghost use Rattle.std.specs.Prelude.{◌≡◌, map, ◌+◌, ◌*◌, ◌≤◌, ◌<◌, length, drop};
 ghost use Rattle.lists.specs.Part.{PartAt};
 ghost use Rattle.numbers.specs.Bytes.{word_limit};
@@ -13,7 +15,7 @@ use layout::MOST_VARIABLES;
 use replies::{BINARY_DIGITS, HEX_DIGITS};
 
 // Where a variable's digits start, and how many they are.
-#[derive(Drop)]
+#[derive(Clone, Copy)]
 pub struct Span {
     pub start: usize,
     pub size: usize,

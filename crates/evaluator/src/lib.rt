@@ -1,4 +1,6 @@
 // What a node comes to in a case: its operands, which stand before it, are asked first.
+#![tactic(auto)]
+
 ghost use Rattle.std.specs.Prelude.{◌≡◌, ◌<◌, take};
 ghost use Rattle.std.specs.Int.Signed.{lt_z, le_z};
 ghost use Rattle.numbers.specs.Ranges.{Narrow};

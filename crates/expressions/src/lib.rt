@@ -1,4 +1,6 @@
 // The expressions of plain texts, written into lent room: the words of a node and of its operands, and how long they are.
+#![tactic(auto)]
+
 ghost use Rattle.std.specs.Prelude.{◌≡◌, ◌++◌, ◌+◌, ◌≤◌, length};
 ghost use Rattle.std.proofs.Math.Option.{none};
 ghost use Rattle.lists.specs.Ascii.{ascii};

@@ -1,4 +1,6 @@
 // What a node is found to be, from the findings of its operands; refusals 7 and 8.
+#![tactic(auto)]
+
 ghost use Rattle.std.specs.Prelude.{◌≡◌, ◌≤◌, ◌<◌, length};
 ghost use Rattle.numbers.specs.Bytes.{word_limit};
 ghost use Rattle.numbers.specs.Two.{dec};
@@ -16,21 +18,21 @@ use meaning::Sort;
 use numbers::{NodeNumber, Range, VariableNumber};
 
 // A truth value, or an integer in a range.
-#[derive(Drop)]
+#[derive(Clone, Copy)]
 pub enum Finding {
     Truth,
     Integer(Range),
 }
 
 // What a node is found to be, or the number of its refusal.
-#[derive(Drop)]
+#[derive(Clone, Copy)]
 pub enum Step {
     Good(Finding),
     Bad(u16),
 }
 
 // An operand of the wrong sort, or the range of one of the right sort.
-#[derive(Drop)]
+#[derive(Clone, Copy)]
 enum Operand {
     Wrong,
     Right(Range),

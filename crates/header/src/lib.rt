@@ -1,4 +1,6 @@
 // The header of a sheet: its counts, the bytes outside the records, and refusals 3 and 4.
+#![tactic(auto)]
+
 ghost use Rattle.std.specs.Prelude.{◌≡◌, ◌+◌, ◌*◌, ◌≤◌, ◌<◌, length};
 ghost use Rattle.layout.specs.Limits.{block_bytes, content_bytes, most_variables, most_nodes, sheet_bytes, most_blocks};
 ghost use Rattle.layout.specs.Parts.{node_count, variable_count};

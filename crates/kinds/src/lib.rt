@@ -1,11 +1,13 @@
 // The kinds of node, the shapes that their records have, and a node's record.
+#![tactic(auto)]
+
 ghost use Rattle.std.specs.Prelude.{◌≡◌};
 ghost use Rattle.kinds.specs.Kinds.{row, kind_of};
 
 use meaning::Sort;
 
 // Document 01's kinds, and one for every byte that names none.
-#[derive(Drop)]
+#[derive(Clone, Copy)]
 pub enum Kind {
     Unknown,
     True,
@@ -28,7 +30,7 @@ pub enum Kind {
 }
 
 // Which fields of the record a kind uses: none, the value, a variable's number, or operands of some sorts.
-#[derive(Drop)]
+#[derive(Clone, Copy)]
 pub enum Shape {
     Wrong,
     Bare,
@@ -40,7 +42,7 @@ pub enum Shape {
 }
 
 // A node's record. The value is the field's 16 bits; `spare` is the sum of the bytes that every kind leaves zero.
-#[derive(Drop)]
+#[derive(Clone, Copy)]
 pub struct Record {
     pub kind: Kind,
     pub a: u16,

@@ -1,4 +1,5 @@
 // The sizes, places and limits of a sheet, each named once. Its layout, as definitions and laws, is in specs/ and proofs/.
+#![tactic(auto)]
 
 // A block, and the bytes of it that are no check.
 pub const BLOCK_BYTES: usize = 512;

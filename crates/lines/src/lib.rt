@@ -1,4 +1,6 @@
 // The lines of a script that are about variables, written into lent room: declarations, ranges and values asked for.
+#![tactic(auto)]
+
 ghost use Rattle.std.specs.Prelude.{◌≡◌, ◌+◌, ◌≤◌, ◌<◌, length};
 ghost use Rattle.lists.specs.Joined.{joined_below};
 ghost use Rattle.layout.specs.Limits.{block_bytes, most_variables};

@@ -1,4 +1,6 @@
 // The sheet of a plain text, made in lent room.
+#![tactic(auto)]
+
 ghost use Rattle.std.specs.Prelude.{◌≡◌, true, ◌+◌, ◌≤◌, ◌<◌, length, replicate};
 ghost use Rattle.std.proofs.Math.Option.{none};
 ghost use Rattle.layout.specs.Limits.{most_variables, most_nodes, sheet_bytes, most_sheet_bytes};

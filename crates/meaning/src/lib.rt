@@ -1,5 +1,7 @@
 // What a node gives: a truth value or an integer. The rest of the crate is definitions: see specs/.
-#[derive(Drop)]
+#![tactic(auto)]
+
+#[derive(Clone, Copy)]
 pub enum Sort {
     Truth,
     Integer,

@@ -1,4 +1,6 @@
 // The nodes of a sheet, from 0 up, and the goal: refusals 6 to 8.
+#![tactic(auto)]
+
 ghost use Rattle.std.specs.Prelude.{◌≡◌};
 ghost use Rattle.refusals.specs.Said.{said_of};
 ghost use Rattle.layout.specs.Limits.{most_nodes};

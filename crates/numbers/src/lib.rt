@@ -1,18 +1,20 @@
 // Kinds of number, numbers from bytes, and ranges of integers worked out exactly.
+#![tactic(auto)]
+
 ghost use Rattle.std.specs.Prelude.{◌≡◌, ◌+◌, ◌<◌, length};
 ghost use Rattle.numbers.specs.Two.{dec};
 ghost use Rattle.numbers.specs.Bytes.{byte_limit, byte_at, u16_at, i16_at};
 ghost use Rattle.numbers.specs.Ranges.{◌⋯◌, NarrowEnds, is_narrow, has_narrow_ends, least_of, greatest_of, minus_of, sum_of, difference_of, span_of, product_of, union_of};
 
 // The numbers of variables and of nodes: two types, so that neither passes for the other.
-#[derive(Drop)]
+#[derive(Clone, Copy)]
 pub struct VariableNumber(pub u16);
 
-#[derive(Drop)]
+#[derive(Clone, Copy)]
 pub struct NodeNumber(pub u16);
 
 // The integers from low to high.
-#[derive(Drop)]
+#[derive(Clone, Copy)]
 pub struct Range {
     pub low: i32,
     pub high: i32,

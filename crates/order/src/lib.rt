@@ -1,4 +1,6 @@
 // Where a node's operands must stand, and what else its record must keep: refusal 6.
+#![tactic(auto)]
+
 ghost use Rattle.std.specs.Prelude.{◌≡◌, ◌+◌, ◌*◌, ◌≤◌, ◌<◌, [], ◌∷◌, true, ◌&&◌, eqb};
 ghost use Rattle.lists.specs.Places.{at};
 ghost use Rattle.numbers.specs.Bytes.{word_limit};

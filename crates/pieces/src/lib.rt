@@ -1,4 +1,6 @@
 // The pieces of a script's text, written into lent room: words, constants and symbols.
+#![tactic(auto)]
+
 ghost use Rattle.std.specs.Prelude.{◌≡◌, ◌++◌, ◌+◌, ◌≤◌, ◌<◌, length};
 ghost use Rattle.lists.specs.Ascii.{ascii};
 ghost use Rattle.layout.specs.Limits.{most_variables};
@@ -22,7 +24,7 @@ pub const CLOSE: [u8; 1] = *b")";
 pub const CONSTANT_BYTES: usize = 6;
 
 // The letters of a kind's word, blanks behind them, and how many they are.
-#[derive(Drop)]
+#[derive(Clone, Copy)]
 struct Word([u8; 8], usize);
 
 // A kind's word: behind the opening parenthesis, or the whole text.

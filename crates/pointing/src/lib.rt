@@ -1,4 +1,6 @@
 // Where a refusal of a text points: the byte, and its line and column.
+#![tactic(auto)]
+
 ghost use Rattle.std.specs.Prelude.{◌≡◌, cond, ◌+◌, ◌≤◌, ◌<◌, length, drop};
 ghost use Rattle.kinds.specs.Kinds.{row};
 ghost use Rattle.grammar.specs.Words.{word_length};
@@ -19,14 +21,14 @@ const NAME_START: usize = 4;
 // The bytes before the goal's expression: `goal` and a space.
 const GOAL_START: usize = 5;
 
-#[derive(Drop)]
+#[derive(Clone, Copy)]
 pub enum Pointed {
     Nowhere,
     At(usize),
 }
 
 // The place behind an expression and its separator, and how many nodes it has.
-#[derive(Drop)]
+#[derive(Clone, Copy)]
 struct Extent {
     behind: usize,
     nodes: usize,

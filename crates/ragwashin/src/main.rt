@@ -1,4 +1,6 @@
 // Answers requests about sheets, in files or on standard input, and about solvers' replies, and makes sheets of texts and texts of sheets; with no word it writes the script.
+#![tactic(auto)]
+
 ghost use Rattle.std.specs.Prelude.{◌≡◌, true};
 ghost use Rattle.io.specs.Counts.{IsPrefixLen};
 ghost use Rattle.lists.specs.Names.{same_bytes};
@@ -31,7 +33,7 @@ const MOST_TEXT_READ: usize = MOST_TEXT + 1;
 const REPLY_FILE: usize = FIRST_FILE + 1;
 
 // What is done with an input: a text's sheet, a sheet's text, or an answer.
-#[derive(Drop)]
+#[derive(Clone, Copy)]
 enum Job {
     Make,
     Text,
@@ -39,7 +41,7 @@ enum Job {
 }
 
 // What the first word is.
-#[derive(Drop)]
+#[derive(Clone, Copy)]
 enum Word {
     Unknown,
     Help,
@@ -207,7 +209,7 @@ fn has_ended(fd: i32, size: usize, most: usize) -> bool
 }
 
 // An input's sheet: whether there is one, and how many bytes it has.
-#[derive(Drop)]
+#[derive(Clone, Copy)]
 struct Input {
     is_taken: bool,
     size: usize,

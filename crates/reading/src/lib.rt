@@ -1,4 +1,6 @@
 // A sheet, read: accepted or refused, and a variable's name.
+#![tactic(auto)]
+
 ghost use Rattle.std.specs.Prelude.{◌≡◌};
 ghost use Rattle.refusals.specs.Said.{said_of};
 ghost use Rattle.layout.specs.Limits.{most_nodes};

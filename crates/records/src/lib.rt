@@ -1,4 +1,6 @@
 // The records of a sheet: variable records, node records, and refusal 5.
+#![tactic(auto)]
+
 ghost use Rattle.std.specs.Prelude.{◌≡◌, ◌&&◌, ◌+◌, ◌*◌, ◌≤◌, ◌<◌, leb, length};
 ghost use Rattle.std.specs.Int.Signed.{le_z};
 ghost use Rattle.lists.specs.Part.{PartAt};

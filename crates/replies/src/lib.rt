@@ -1,4 +1,6 @@
 // Reads a solver's reply, one part of its grammar after another.
+#![tactic(auto)]
+
 ghost use Rattle.std.specs.Prelude.{◌≡◌, cond, ◌+◌, ◌/◌, ◌%◌, eqb, get_or, replicate};
 ghost use Rattle.std.proofs.Math.Option.{none, some};
 ghost use Rattle.lists.specs.Ascii.{ascii};
@@ -20,14 +22,14 @@ const UNSAT: [u8; 5] = *b"unsat";
 const SAT: [u8; 3] = *b"sat";
 
 // Where the reading stands: before a place, or off at it, since the byte there fits no reply.
-#[derive(Drop)]
+#[derive(Clone, Copy)]
 struct Here {
     place: usize,
     off: bool,
 }
 
 // The bytes are a reply, or the place of the first that fits none.
-#[derive(Drop)]
+#[derive(Clone, Copy)]
 pub enum Reached {
     Whole,
     Stopped(usize),

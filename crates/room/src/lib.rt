@@ -1,11 +1,13 @@
 // Texts written into lent room.
+#![tactic(auto)]
+
 ghost use Rattle.std.specs.Prelude.{◌+◌, ◌≤◌, length};
 ghost use Rattle.room.specs.Room.{Wrote};
 
 use refusals::Refusal;
 
 // What a call that writes bytes to the front of lent room answers: so many of them, or the refusal.
-#[derive(Drop)]
+#[derive(Clone, Copy)]
 pub enum Written {
     Done(usize),
     Refused(Refusal),

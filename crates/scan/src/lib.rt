@@ -1,4 +1,6 @@
 // How far bytes begin a plain text: word by word, with a count of pending operands.
+#![tactic(auto)]
+
 ghost use Rattle.std.specs.Prelude.{◌≡◌, ◌||◌, ◌+◌, ◌*◌, ◌≤◌, ◌<◌, length, take};
 ghost use Rattle.lists.specs.Ascii.{ascii};
 ghost use Rattle.texts.specs.WordKinds.{worded};
@@ -10,14 +12,14 @@ ghost use Rattle.scan.specs.States.{place_at, word_at, Stands, to, nowhere, from
 use layout::MOST_NAME_BYTES;
 
 // A whole text, or the place of the first byte that fits none, or the length where the bytes stop short.
-#[derive(Drop)]
+#[derive(Clone, Copy)]
 pub enum Scanned {
     Whole,
     Stopped(usize),
 }
 
 // What the next word is: a line's first, a variable's name, its least or its greatest number, or a word of the goal. Behind the goal there is none.
-#[derive(Drop)]
+#[derive(Clone, Copy)]
 enum Phase {
     Line,
     Named,
@@ -28,7 +30,7 @@ enum Phase {
 }
 
 // Where the scan stands: how many operands come behind the next one, how many names are declared, and where the next word starts.
-#[derive(Drop)]
+#[derive(Clone, Copy)]
 struct Here {
     phase: Phase,
     pending: usize,
@@ -37,7 +39,7 @@ struct Here {
 }
 
 // Where a word leads: the separator that must stand behind it, and what comes then. The separator is 0 where the word may not stand there.
-#[derive(Drop)]
+#[derive(Clone, Copy)]
 struct Onward {
     separator: u8,
     phase: Phase,

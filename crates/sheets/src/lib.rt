@@ -1,4 +1,6 @@
 // A sheet's bytes, put into lent room part by part: counts, variable records, node records, checks.
+#![tactic(auto)]
+
 ghost use Rattle.std.specs.Prelude.{◌≡◌, [], ◌∷◌, ◌++◌, ◌+◌, ◌*◌, ◌≤◌, ◌<◌, length};
 ghost use Rattle.numbers.specs.Two.{enc};
 ghost use Rattle.numbers.specs.Bytes.{pair};

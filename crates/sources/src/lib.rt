@@ -1,4 +1,6 @@
 // What the program says of a text: its sheet, or the line of its refusal and where that points. And of a sheet: its text.
+#![tactic(auto)]
+
 ghost use Rattle.std.specs.Prelude.{◌≤◌, length};
 ghost use Rattle.std.proofs.Math.Option.{some};
 ghost use Rattle.layout.specs.Limits.{most_nodes};
@@ -15,7 +17,7 @@ use refusals::Refusal;
 use room::Written;
 
 // The bytes of a sheet, or those of a line; none of the other.
-#[derive(Drop)]
+#[derive(Clone, Copy)]
 pub struct Source {
     pub sheet: usize,
     pub line: usize,

@@ -1,4 +1,6 @@
 // The words of plain texts, written into lent room: the words of kinds, and numbers in decimal.
+#![tactic(auto)]
+
 ghost use Rattle.std.specs.Prelude.{◌≡◌, ◌+◌, ◌%◌, ◌≤◌, ◌<◌, nat_abs, length};
 ghost use Rattle.numbers.specs.Two.{dec};
 ghost use Rattle.numbers.specs.Decimal.{decimal, signed};
@@ -9,7 +11,7 @@ ghost use Rattle.spelling.specs.Spelling.{Spells};
 use kinds::Kind;
 
 // The bytes of a word, blanks behind them, and how many they are.
-#[derive(Drop)]
+#[derive(Clone, Copy)]
 struct Word([u8; 8], usize);
 
 // A kind's plain word.

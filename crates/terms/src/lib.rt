@@ -1,4 +1,6 @@
 // The terms of a script, written into lent room: the text of a node, and how long it is.
+#![tactic(auto)]
+
 ghost use Rattle.std.specs.Prelude.{◌≡◌, ◌++◌, ◌+◌, ◌≤◌, length};
 ghost use Rattle.lists.specs.Ascii.{ascii};
 ghost use Rattle.wording.specs.Words.{word_of};

@@ -1,1 +1,2 @@
 // What a plain text is, what it says, and how far bytes begin one: definitions and laws, no code.
+#![tactic(auto)]

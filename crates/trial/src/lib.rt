@@ -1,4 +1,6 @@
 // A solver's reply, believed where its case makes the theorem false.
+#![tactic(auto)]
+
 ghost use Rattle.std.specs.Prelude.{◌≡◌, ◌≤◌, length, take};
 ghost use Rattle.std.proofs.Math.Option.{none};
 ghost use Rattle.refusals.specs.Said.{said_of};
@@ -17,7 +19,7 @@ use refusals::{Reading, Refusal};
 use replies::Reached;
 
 // What a reply comes to: unsat is claimed, a failing case is spelled, or the refusal.
-#[derive(Drop)]
+#[derive(Clone, Copy)]
 pub enum Replied {
     Unsat,
     Fails,

@@ -1,4 +1,6 @@
 // The words of a plain text: where they end, and what they are.
+#![tactic(auto)]
+
 ghost use Rattle.std.specs.Prelude.{◌≡◌, true, not, cond, ◌&&◌, ◌+◌, ◌-◌, ◌*◌, ◌≤◌, leb, pos, neg_ℤ, length, drop};
 ghost use Rattle.lists.specs.Names.{same_bytes};
 ghost use Rattle.kinds.specs.Kinds.{row};

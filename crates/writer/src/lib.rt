@@ -1,4 +1,6 @@
 // The script of a sheet's rule, written into lent room.
+#![tactic(auto)]
+
 ghost use Rattle.std.specs.Prelude.{◌≡◌, ◌+◌, ◌≤◌, length};
 ghost use Rattle.std.proofs.Math.Option.{none};
 ghost use Rattle.layout.specs.Limits.{most_variables, most_nodes};

@@ -1,0 +1,18 @@
+-- `least` meets its contract: each arm's test is the definition's. Assumes nothing.
+use mir.Facts.{to_z-of_z}
+use Rattle.numbers.specs.Ranges.{least_of}
+use Rattle.numbers.proofs.least.Goals as goal
+
+pub returns-then-a-b : goal.returns-then-a-b
+unfolding least_of
+returns-then-a-b c =
+    let a = to_z-of_z c.ranges.a in
+    let b = to_z-of_z c.ranges.b in
+    simp (a, simp (a, b) at c.if-a-b.true)
+
+pub returns-else-a-b : goal.returns-else-a-b
+unfolding least_of
+returns-else-a-b c =
+    let a = to_z-of_z c.ranges.a in
+    let b = to_z-of_z c.ranges.b in
+    simp (b, simp (a, b) at c.if-a-b.false)
