@@ -53,6 +53,7 @@ pub struct Record {
 }
 
 // The kind that a byte names.
+#[tactic(auto, unfolding(crate::specs::Kinds::kind_of, crate::specs::Kinds::find))]
 pub fn kind_of(byte: u8) -> Kind
     ensures { result ≡ kind_of byte }
 {
