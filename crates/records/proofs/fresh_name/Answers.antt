@@ -1,10 +1,8 @@
 -- `fresh_name` meets its contract. The loop's invariant: the names passed are not the variable's. Assumes nothing.
-use Prim.Native.Nat.{◌≤◌, ◌-◌}
-use mathlib.Core.Path.{◌≡◌, sym}
-use mathlib.Core.Bool.{true}
+use mathlib.Core.Path.{sym}
 use borrow.Author.Rules.{rules}
 use native.Mathlib.Omega.{arith}
-use Rattle.records.proofs.StepLaws.{unlike_below, fresh-begin, fresh-pass, fresh-stop, fresh-done}
+use Rattle.records.proofs.StepLaws.{fresh-begin, fresh-pass, fresh-stop, fresh-done}
 use Rattle.records.proofs.fresh_name.Goals as goal
 
 pub loop-m-init : goal.loop-m-init

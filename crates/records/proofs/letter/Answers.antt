@@ -1,5 +1,4 @@
 -- `letter` meets its contract: what `between` ensures of both alphabets. Assumes nothing.
-use borrow.Author.Rules.{rules}
 use mathlib.Core.Path.{sym, ◌∙◌}
 use Rattle.records.specs.Variables.{is_letter}
 use Rattle.records.proofs.letter.Goals as goal

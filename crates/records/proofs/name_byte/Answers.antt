@@ -1,5 +1,4 @@
 -- `name_byte` meets its contract: a letter, else a digit, else the underscore. Assumes nothing.
-use borrow.Author.Rules.{rules}
 use mathlib.Core.Path.{sym, ◌∙◌}
 use Rattle.records.specs.Variables.{is_name_byte}
 use Rattle.records.proofs.name_byte.Goals as goal

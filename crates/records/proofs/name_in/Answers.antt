@@ -1,5 +1,4 @@
 -- `name_in` meets its contract: the part from six bytes behind the record's start, as long as the record's byte 4 says. Assumes nothing.
-use borrow.Author.Rules.{rules}
 use mathlib.Core.Path.{refl}
 use native.Mathlib.Nat.{add_comm, add-sub_cancel_left}
 use Rattle.records.proofs.name_in.Goals as goal

@@ -1,10 +1,6 @@
 -- `name_right` meets its contract. The loop's invariant: whether the bytes are a name is whether those from i on are bytes of one. Assumes nothing.
-use Prim.Native.Nat.{◌≤◌, ◌-◌}
-use mathlib.Core.Path.{◌≡◌, sym, ◌∙◌}
+use mathlib.Core.Path.{sym, ◌∙◌}
 use borrow.Author.Rules.{rules}
-use borrow.Author.Tests.{not-true, not-false}
-use lib.ListN.{length, drop}
-use Rattle.records.specs.Variables.{all_name_bytes, name_right}
 use Rattle.records.proofs.StepLaws.{name-empty, name-started, name-unstarted, bytes-pass, bytes-stop, bytes-done}
 use Rattle.records.proofs.name_right.Goals as goal
 

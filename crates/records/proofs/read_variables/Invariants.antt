@@ -1,12 +1,7 @@
 -- `read_variables` meets its contract. The loop's invariant: the answer over all variables is the answer over those from i on. Assumes nothing.
 use Prim.Native.Nat.{◌≤◌, ◌-◌}
-use mathlib.Core.Path.{◌≡◌, sym, ◌∙◌}
-use borrow.Author.Rules.{rules}
-use borrow.Author.Tests.{not-true, not-false}
-use native.Mathlib.Nat.{sub-zero}
+use mathlib.Core.Path.{◌≡◌}
 use Rattle.lists.specs.First.{first}
-use Rattle.lists.proofs.FirstLaws.{left-pass, left-stop, left-done}
-use Rattle.refusals.proofs.SaidLaws.{unless-true, unless-false}
 use Rattle.records.specs.Variables.{variable_refusal, variables}
 use Rattle.records.proofs.read_variables.Given as goal
 

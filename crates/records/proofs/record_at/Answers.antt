@@ -1,5 +1,4 @@
 -- `record_at` meets its contract: each field as its reader ensures, at the node's place. Assumes nothing.
-use borrow.Author.Rules.{rules}
 use Rattle.records.proofs.record_at.Goals as goal
 
 pub returns : goal.returns

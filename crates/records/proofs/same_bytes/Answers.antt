@@ -1,9 +1,6 @@
 -- `same_bytes` meets its contract. The loop's invariant: whether the bytes are the same is whether those from i on are. Assumes nothing.
-use Prim.Native.Nat.{◌≤◌, ◌-◌}
-use mathlib.Core.Path.{◌≡◌, refl, sym, ◌∙◌}
+use mathlib.Core.Path.{refl, sym, ◌∙◌}
 use borrow.Author.Rules.{rules}
-use lib.ListN.{length, drop}
-use Rattle.lists.specs.Names.{same_bytes}
 use Rattle.records.proofs.StepLaws.{same-longer, same-pass, same_stop, same-done}
 use Rattle.records.proofs.same_bytes.Goals as goal
 

@@ -1,5 +1,4 @@
 -- `same_name` meets its contract: `same_bytes` of the two parts that `name_in` hands back. Assumes nothing.
-use borrow.Author.Rules.{rules}
 use mathlib.Core.Path.{ap₂, ◌∙◌}
 use Rattle.lists.specs.Names.{same_bytes}
 use Rattle.records.proofs.same_name.Goals as goal

@@ -1,5 +1,4 @@
 -- `variable_kept` meets its contract: what `variable_right` and `fresh_name` ensure, one after the other. Assumes nothing.
-use borrow.Author.Rules.{rules}
 use mathlib.Core.Path.{sym, ◌∙◌}
 use Rattle.records.proofs.variable_kept.Goals as goal
 

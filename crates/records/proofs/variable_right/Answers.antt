@@ -1,6 +1,4 @@
 -- `variable_right` meets its contract: a test that fails breaks a rule, and the last test decides what is left. Assumes nothing.
-use borrow.Author.Rules.{rules}
-use borrow.Author.Tests.{not-true, not-false}
 use mathlib.Core.Path.{sym, ◌∙◌}
 use mathlib.Core.Bool.{true≢false}
 use native.Mathlib.Omega.{arith}
