@@ -17,7 +17,6 @@ use Rattle.meaning.specs.declared.Sort.TheVariants.{Truth as truth, Integer as i
 use Rattle.kinds.specs.declared.Kind.{Kind}
 use Rattle.kinds.specs.declared.Record.{Record}
 use Rattle.kinds.specs.declared.Shape.{Shape}
-use Rattle.kinds.specs.declared.Shape.TheVariants as Shape
 use Rattle.kinds.specs.Kinds.{row}
 use Rattle.kinds.proofs.KindLaws.{passes}
 use Rattle.layout.specs.Limits.{max_offset, variable_place}

@@ -6,7 +6,6 @@ use Rattle.meaning.specs.declared.Sort.TheVariants.{Truth as truth, Integer as i
 use Rattle.kinds.specs.declared.Kind.{Kind}
 use Rattle.kinds.specs.declared.Record.{Record}
 use Rattle.kinds.specs.declared.Shape.{Shape}
-use Rattle.kinds.specs.declared.Shape.TheVariants as Shape
 use Rattle.layout.specs.Limits.{most_nodes}
 use Rattle.layout.specs.Starts.{shape_at, operands_of, sorts_of}
 use Rattle.layout.specs.Fold.{found_by}
