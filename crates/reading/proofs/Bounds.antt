@@ -7,7 +7,7 @@ use native.Mathlib.Decide.{dec_lt}
 use native.Mathlib.Omega.{arith}
 use lib.ListN.{length}
 use Rattle.layout.specs.Limits.{block_bytes, most_blocks, most_nodes, most_variables}
-use Rattle.layout.specs.Parts.{node_count, variable_count}
+use Rattle.layout.specs.Parts.{node_count, variable_count, goal_at}
 use Rattle.refusals.specs.declared.Refusal.{Refusal}
 use Rattle.refusals.specs.Rows.{row, ◌then◌}
 use Rattle.refusals.proofs.BoundLaws.{Bounded, not-applied, bounded-row, bounded-then, bounded-each, bounded-answer}
@@ -34,23 +34,23 @@ module _ (s : List ℕ) where
   most : (Row4 most_nodes s → ⊥) → node_count s ≤ most_nodes
   most f = elim (dec_lt most_nodes (node_count s)) [ yes d ↦ absurd (f (nodes d)) | no d ↦ omega arith ]
 
-  small : {n p : ℕ} (C : Type 0) → 1 ≤ n → p < most_nodes → Bounded Small (row n p C)
-  small {n} {p} C h l = bounded-row n p C (λ c. record { some_number = h; low-place = l })
+  small : (n p : ℕ) (C : Type 0) → 1 ≤ n → p < most_nodes → Bounded Small (row n p C)
+  small n p C h l = bounded-row n p C (λ c. record { some_number = h; low-place = l })
 
-  node-small : {n : ℕ} → n < most_nodes → Bounded Small (row 6 n (Row6 s n) then row 7 n (Row7 s n) then row 8 n (Row8 s n))
-  node-small {n} l = bounded-then (small (Row6 s n) (omega arith) l) (λ a. bounded-then (small (Row7 s n) (omega arith) l) (λ b. small (Row8 s n) (omega arith) l))
+  node-small : (n : ℕ) → n < most_nodes → Bounded Small (row 6 n (Row6 s n) then row 7 n (Row7 s n) then row 8 n (Row8 s n))
+  node-small n l = bounded-then (small 6 n (Row6 s n) (omega arith) l) (λ a. bounded-then (small 7 n (Row7 s n) (omega arith) l) (λ b. small 8 n (Row8 s n) (omega arith) l))
 
   pub sheet-small : Bounded Small (sheet_rows most_nodes s)
   unfolding sheet_rows
   sheet-small =
-      bounded-then (small (Row1 most_nodes s) (omega arith) (omega arith))
-      (λ a. bounded-then (bounded-each (length s / block_bytes) 0 (λ k i l. small (Row2 s k) (omega arith) (omega (arith, short (not-applied a)))))
-      (λ b. bounded-then (small (Row3 s) (omega arith) (omega arith))
-      (λ c. bounded-then (small (Row4 most_nodes s) (omega arith) (omega arith))
-      (λ d. bounded-then (bounded-each (variable_count s) 0 (λ k i l. small (Row5 s k) (omega arith) (omega (arith, few (not-applied d)))))
-      (λ e. bounded-then (bounded-each (node_count s) 0 (λ k i l. node-small (omega (arith, most (not-applied d)))))
-      (λ f. bounded-then (small (GoalSubtree s) (omega arith) (omega (arith, some-node (not-applied d), most (not-applied d))))
-      (λ g. small (GoalType s) (omega arith) (omega (arith, some-node (not-applied d), most (not-applied d))))))))))
+      bounded-then (small 1 0 (Row1 most_nodes s) (omega arith) (omega arith))
+      (λ a. bounded-then (bounded-each (length s / block_bytes) 0 (λ k i l. small 2 k (Row2 s k) (omega arith) (omega (arith, short (not-applied a)))))
+      (λ b. bounded-then (small 3 0 (Row3 s) (omega arith) (omega arith))
+      (λ c. bounded-then (small 4 0 (Row4 most_nodes s) (omega arith) (omega arith))
+      (λ d. bounded-then (bounded-each (variable_count s) 0 (λ k i l. small 5 k (Row5 s k) (omega arith) (omega (arith, few (not-applied d)))))
+      (λ e. bounded-then (bounded-each (node_count s) 0 (λ k i l. node-small k (omega (arith, most (not-applied d)))))
+      (λ f. bounded-then (small 6 (goal_at s) (GoalSubtree s) (omega arith) (omega (arith, some-node (not-applied d), most (not-applied d))))
+      (λ g. small 7 (goal_at s) (GoalType s) (omega arith) (omega (arith, some-node (not-applied d), most (not-applied d))))))))))
 
   pub refusal-small : {r : Refusal} → refusal_of most_nodes s ≡ some r → Small r.number r.place
   refusal-small e = bounded-answer sheet-small (sheet-exactly most_nodes s) e
