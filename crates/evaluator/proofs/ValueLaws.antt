@@ -42,6 +42,9 @@ pub record Reached (s : List ℕ) (numbers : List ℤ) (n : ℕ) (r : Record) (h
   pub record_is : r ≡ table s n
   pub shape_is : h ≡ (row r.kind).shape
 
+pub reached : {s : List ℕ} {numbers : List ℤ} {n : ℕ} {r : Record} {g h : Shape} → Standing s numbers → n < node_count s → r ≡ table s n → g ≡ (row r.kind).shape → g ≡ h → Reached s numbers n r h
+reached ok l e f g = record { standing = ok; inside = l; record_is = e; shape_is = sym g ∙ f }
+
 module _ {s : List ℕ} {numbers : List ℤ} {n : ℕ} {r : Record} {h : Shape} (at : Reached s numbers n r h) where
   placed : Placed (table s) (variable_count s) n
   placed = (accepted-sound s at.standing.accepted).placed n at.inside
