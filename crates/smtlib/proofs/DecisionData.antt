@@ -1,7 +1,6 @@
 -- Scripts of which z3, cvc5, SMT-LIB and the reading of crates/smtlib don't say the same (z3 -in; cvc5 --incremental --lang smt2 --strict-parsing). Written by tests/smtlib/vectors.rs from tests/smtlib/scripts.txt.
 use Prim.Native.Nat.{ℕ}
 use Prim.Native.String.{String}
-use mathlib.Core.Bool.{Bool, true, false}
 use mathlib.Core.List.{List, [], ◌∷◌}
 
 -- z3 accepts these, and cvc5 refuses them
