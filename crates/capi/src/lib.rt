@@ -1,4 +1,5 @@
-// The C interface: the calls on numbers and slices, each answer one number. See include/ragwashin.h.
+// The calls of the C interface, on numbers and slices, each answer one number. See include/ragwashin.h. Crate capi_c
+// exports them.
 #![tactic(auto)]
 
 ghost use Rattle.std.specs.Prelude.{◌≡◌, ◌<◌, ◌^◌, true, false};
@@ -20,8 +21,7 @@ const OFFSET: u64 = 65536;
 
 const COUNT: u64 = 16777216;
 
-#[unsafe(no_mangle)]
-pub extern "C" fn ragwashin_read(sheet: &[u8]) -> u64
+pub fn ragwashin_read(sheet: &[u8]) -> u64
     ensures { result ≡ read_code most_nodes sheet.now }
 {
     let reading = reading::read(sheet);
@@ -31,8 +31,7 @@ pub extern "C" fn ragwashin_read(sheet: &[u8]) -> u64
     }
 }
 
-#[unsafe(no_mangle)]
-pub extern "C" fn ragwashin_name(sheet: &[u8], variable: u16) -> u64
+pub fn ragwashin_name(sheet: &[u8], variable: u16) -> u64
     ensures { result ≡ name_code most_nodes sheet.now variable }
 {
     let part = reading::name(sheet, VariableNumber(variable));
@@ -44,8 +43,7 @@ pub extern "C" fn ragwashin_name(sheet: &[u8], variable: u16) -> u64
     (start as u64) * OFFSET + size
 }
 
-#[unsafe(no_mangle)]
-pub extern "C" fn ragwashin_block(sheet: &[u8], k: u64) -> u64
+pub fn ragwashin_block(sheet: &[u8], k: u64) -> u64
     ensures { result ≡ block_code sheet.now k }
 {
     blocks::block(sheet, k as usize).len() as u64
@@ -59,8 +57,7 @@ fn refusal_code(refusal: Refusal) -> u64
     refusal.number as u64 * NUMBER + refusal.place as u64
 }
 
-#[unsafe(no_mangle)]
-pub extern "C" fn ragwashin_check(sheet: &[u8], room: &mut [i16]) -> u64
+pub fn ragwashin_check(sheet: &[u8], room: &mut [i16]) -> u64
     ensures { CheckCodes most_nodes sheet.now room.old result room.new }
 {
     let checked = cases::check(sheet, room);
@@ -71,8 +68,7 @@ pub extern "C" fn ragwashin_check(sheet: &[u8], room: &mut [i16]) -> u64
     }
 }
 
-#[unsafe(no_mangle)]
-pub extern "C" fn ragwashin_tally(sheet: &[u8]) -> u64
+pub fn ragwashin_tally(sheet: &[u8]) -> u64
     ensures { result ≡ tally_code most_nodes sheet.now }
 {
     let tally = cases::tally(sheet);
@@ -113,36 +109,31 @@ fn script_code(sheet: &[u8], form: ScriptForm, room: &mut [u8]) -> u64
     written_code(writer::write_script(sheet, form, room))
 }
 
-#[unsafe(no_mangle)]
-pub extern "C" fn ragwashin_script(sheet: &[u8], room: &mut [u8]) -> u64
+pub fn ragwashin_script(sheet: &[u8], room: &mut [u8]) -> u64
     ensures { ScriptCodes most_nodes (sixteen false) sheet.now room.old result room.new }
 {
     script_code(sheet, ScriptForm { models: false }, room)
 }
 
-#[unsafe(no_mangle)]
-pub extern "C" fn ragwashin_ask(sheet: &[u8], room: &mut [u8]) -> u64
+pub fn ragwashin_ask(sheet: &[u8], room: &mut [u8]) -> u64
     ensures { ScriptCodes most_nodes (sixteen true) sheet.now room.old result room.new }
 {
     script_code(sheet, ScriptForm { models: true }, room)
 }
 
-#[unsafe(no_mangle)]
-pub extern "C" fn ragwashin_make(text: &[u8], room: &mut [u8]) -> u64
+pub fn ragwashin_make(text: &[u8], room: &mut [u8]) -> u64
     ensures { MakeCodes most_nodes text.now room.old result room.new }
 {
     written_code(maker::make(text, room))
 }
 
-#[unsafe(no_mangle)]
-pub extern "C" fn ragwashin_text(sheet: &[u8], room: &mut [u8]) -> u64
+pub fn ragwashin_text(sheet: &[u8], room: &mut [u8]) -> u64
     ensures { TextCodes most_nodes sheet.now room.old result room.new }
 {
     written_code(printer::print(sheet, room))
 }
 
-#[unsafe(no_mangle)]
-pub extern "C" fn ragwashin_reply(sheet: &[u8], reply: &[u8]) -> u64
+pub fn ragwashin_reply(sheet: &[u8], reply: &[u8]) -> u64
     ensures { ReplyCodes most_nodes sheet.now reply.now result }
 {
     let replied = trial::reply(sheet, reply);
@@ -156,8 +147,7 @@ pub extern "C" fn ragwashin_reply(sheet: &[u8], reply: &[u8]) -> u64
     }
 }
 
-#[unsafe(no_mangle)]
-pub extern "C" fn ragwashin_digits(sheet: &[u8], reply: &[u8], variable: u16) -> u64
+pub fn ragwashin_digits(sheet: &[u8], reply: &[u8], variable: u16) -> u64
     ensures { DigitsCodes most_nodes sheet.now reply.now variable result }
 {
     let span = trial::digits_span(sheet, reply, VariableNumber(variable));
