@@ -1,4 +1,4 @@
-/* check SHEET: what Ragwashin says of a sheet. With the archive of 'rt staticlib capi':
+/* check SHEET: what Ragwashin says of a sheet. With the archive of tools/archive:
    cc -I include examples/library/check.c target/staticlib/libcapi.a -o check */
 #include "ragwashin.h"
 #include <stdio.h>

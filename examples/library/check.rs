@@ -1,4 +1,4 @@
-// check SHEET: what Ragwashin says of a sheet. With the archive of 'rt staticlib capi':
+// check SHEET: what Ragwashin says of a sheet. With the archive of tools/archive:
 // rustc --edition 2021 examples/library/check.rs -L target/staticlib -l static=capi -o check
 
 use std::{env, fs, process};

@@ -4,7 +4,7 @@
    lent a second time right after such a page, or as a null pointer where the length is 0, and must be answered
    alike. Answers are written trial by trial, so that the last one written tells where the program ended. A trial
    is as the oracle has it. With an argument, the driver itself goes past or before what it lends, to show that
-   this is caught. No headers: the kit has none. */
+   this is caught. No headers: what it calls of the C library is declared here. */
 #include "driver.h"
 
 extern long read(int, void *, size);

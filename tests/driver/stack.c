@@ -67,6 +67,7 @@ __attribute__((noinline)) static void with_gap(call *call) {
     volatile byte gap[OWN];
     for (int i = 0; i < OWN; i++) gap[i] = 1;
     gap[call() % OWN] = 0;
+    (void)gap[0];
 }
 
 __attribute__((noinline)) static size taken(call *call) {

@@ -586,8 +586,8 @@ fn term_data(terms: &[Term]) -> String {
         "-- Closed terms with the values that z3 and cvc5 give them ({}). Written by tests/smtlib/vectors.rs.
 use Prim.Native.String.{{String}}
 use mathlib.Core.Bool.{{true, false}}
-use mathlib.Core.List.{{List, [], _∷_}}
-use Rattle·smtlib·specs.specs.Values.{{Value, truth, bits}}
+use mathlib.Core.List.{{List, [], ◌∷◌}}
+use Rattle.smtlib.specs.Values.{{Value, truth, bits}}
 
 {}",
         calls(),
@@ -628,7 +628,7 @@ fn opening(about: &str) -> String {
 use Prim.Native.Nat.{{ℕ}}
 use Prim.Native.String.{{String}}
 use mathlib.Core.Bool.{{Bool, true, false}}
-use mathlib.Core.List.{{List, [], _∷_}}
+use mathlib.Core.List.{{List, [], ◌∷◌}}
 ",
         calls()
     )
@@ -678,11 +678,11 @@ fn decision_data(cases: &[Case], judged: &[Judged]) -> String {
 -- cvc5 accepts these, as SMT-LIB does, and z3 refuses them or leaves a question unanswered; with every setting that cvc5 finds to satisfy them
 {}",
         opening("Scripts of which z3, cvc5, SMT-LIB and the reading of crates/smtlib don't say the same"),
-        list("byZ3", 2),
-        list("byCvc5", 3),
-        list("againstStandard", 4),
-        list("notRead", 5),
-        list("readWithZ3", 6),
-        list("readWithCvc5", 7)
+        list("by_z3", 2),
+        list("by_cvc5", 3),
+        list("against_standard", 4),
+        list("not_read", 5),
+        list("read_with_z3", 6),
+        list("read_with_cvc5", 7)
     )
 }
