@@ -1,16 +1,23 @@
 // Answers requests about sheets, in files or on standard input, and about solvers' replies, and makes sheets of texts and texts of sheets; with no word it writes the script.
 #![tactic(auto)]
 
-ghost use Rattle.std.specs.Prelude.{◌≡◌, true};
+ghost use Rattle.std.specs.Prelude.{◌≡◌, ◌≤◌, true, false, length, take, IfSome, OnOk};
+ghost use Rattle.std.specs.Io.KnownBytes.{Appends, Consumes};
 ghost use Rattle.io.specs.Counts.{IsPrefixLen};
 ghost use Rattle.lists.specs.Names.{same_bytes};
+ghost use Rattle.ragwashin.specs.Inputs.{HasEnded, HasRead};
 ghost use Rattle.ragwashin.specs.Words.{meant, other_word, word_of, is_line, gives_lines, is_text};
 
 use answers::Request;
 use layout::MOST_SHEET_BYTES;
-use libc::{STDERR_FILENO, STDIN_FILENO, STDOUT_FILENO};
 use printer::LONGEST_TEXT;
 use sources::LONGEST_LINE;
+use std::env::FillError;
+use std::fmt::InlineText;
+use std::fs::File;
+use std::io::{Error, Read, Write};
+use std::rt::Env;
+use std::str::from_utf8;
 use writer::ENOUGH_ROOM;
 
 // One byte more than the longest sheet has: a longer input is refused by its length.
@@ -31,6 +38,50 @@ const MOST_TEXT_READ: usize = MOST_TEXT + 1;
 
 // Behind the sheet that it is a reply to.
 const REPLY_FILE: usize = FIRST_FILE + 1;
+
+// The system's numbers of reasons: none, a name that is too long, and bytes that are no text.
+const NO_REASON: i32 = 0;
+
+const NAME_TOO_LONG: i32 = 36;
+
+const NO_UTF8: i32 = 84;
+
+const HELP: &str = "usage: ragwashin [WORD [FILE ...]]
+
+Answers about each FILE, a rule sheet, or a rule's text where the name ends in
+.rule; about a sheet on standard input where none is named.
+
+  read    accepted
+  check   holds, or fails NAME=VALUE ...: the first failing case
+  tally   held H failed F: how many cases held and how many failed
+  script  the script for an SMT solver, of one FILE; so too where WORD is left out
+  ask     the same, and it asks for a failing case
+  make    the sheet of one text, whatever its name, or of standard input
+  text    the text of one sheet
+  --help  this text
+
+ragwashin reply SHEET [REPLY] judges what a solver answered to ask, in the file
+REPLY or on standard input: fails NAME=VALUE ..., a case that was tried and does
+fail, or unsat claimed. A reply off its grammar is refused 11, a value off its
+domain 12, a case that does not fail 13.
+
+./ragwashin solve FILE ... asks a solver (z3 or cvc5, or the command in
+RAGWASHIN_SOLVER, for 60 seconds or RAGWASHIN_SECONDS) and judges its reply.
+
+A text has a line 'var NAME MIN MAX' for each variable, then a line 'goal' with
+an expression, each word before its operands: true false not and or implies iff
+eq lt le neg add sub mul if, decimal numbers, and the variables' names.
+
+A sheet that is turned away is answered by 'refused R at P', a text so too, with
+' (line L column C)' behind it where it points at a byte. Where two or more files
+are named, 'FILE: ' stands before each answer.
+  refused 18: no text begins like this; P is the first byte that fits none
+  refused 19: no text can be written, since the name of variable P is a word
+
+Exit status of ./ragwashin: 0 accepted, holds, written, none failed, or unsat
+claimed; 1 fails, or some failed; 2 refused; 3 anything else, with a message on
+standard error. Of several files the highest.
+";
 
 // What is done with an input: a text's sheet, a sheet's text, or an answer.
 #[derive(Clone, Copy)]
@@ -123,89 +174,151 @@ fn gives_lines(job: Job) -> bool
     }
 }
 
+// Writes all the bytes; stops at the first write that fails or takes nothing.
+fn write_all<W: Write>(to: &mut W, bytes: &[u8]) -> Result<(), Error>
+    ensures { OnOk result (Appends (W.contents to.old) (W.contents to.new) bytes.now) }
+{
+    let mut rest = bytes;
+    while !rest.is_empty() {
+        let n = to.write(rest)?;
+        if n == 0 {
+            return Err(Error::from_raw_os_error(NO_REASON));
+        }
+        rest = &rest[n..];
+    }
+    Ok(())
+}
+
+// Reads until the room is full, the input ends or a read fails, whose reason is kept.
+fn read_full<R: Read>(from: &mut R, room: &mut [u8], reason: &mut Error) -> usize
+    ensures prefix_len { IsPrefixLen result room.new }
+    ensures bytes { Consumes (R.remaining from.old) (R.remaining from.new) (take result room.new) }
+{
+    let mut done = 0;
+    while done < room.len() {
+        match from.read(&mut room[done..]) {
+            Ok(0) => return done,
+            Ok(n) => done += n,
+            Err(e) => {
+                *reason = e;
+                return done;
+            }
+        }
+    }
+    done
+}
+
+// Writes a part of a message. Where that fails, nobody can be told.
+fn say(rt: &HostRuntime, words: &[u8]) {
+    let _ = write_all(&mut rt.stderr(), words);
+}
+
+// The words of a reason, behind which std puts its number.
+fn words_of(reason: &str) -> &str {
+    match reason.rsplit_once(" (os error ") {
+        Some((words, _)) => words,
+        None => reason,
+    }
+}
+
+// Ends a message: what failed, and the system's reason.
+fn fail(rt: &HostRuntime, what: &[u8], reason: Error) {
+    let text = InlineText::<128>::of(reason);
+    say(rt, what);
+    say(rt, b": ");
+    say(rt, words_of(text.as_str()).as_bytes());
+    say(rt, b"\n");
+}
+
 // What failed, of which input, and the system's reason.
-fn say_failed(name: &[u8], what: &[u8]) {
-    io::write_all(STDERR_FILENO, b"ragwashin: ");
-    io::write_all(STDERR_FILENO, name);
-    io::write_all(STDERR_FILENO, b": ");
-    os::fail(what);
+fn say_failed(rt: &HostRuntime, name: &[u8], what: &[u8], reason: Error) {
+    say(rt, b"ragwashin: ");
+    say(rt, name);
+    say(rt, b": ");
+    fail(rt, what, reason);
 }
 
 // An argument that is too long for any file's name is told by its place.
-fn say_too_long(place: usize) {
-    io::write_all(STDERR_FILENO, b"ragwashin: argument ");
-    io::print_decimal(STDERR_FILENO, place as u64);
-    os::fail(b"");
+fn say_too_long(rt: &HostRuntime, place: usize) {
+    let mut digits = [0u8; 20];
+    let size = io::decimal(place as u64, &mut digits);
+    say(rt, b"ragwashin: argument ");
+    say(rt, &digits[..size]);
+    fail(rt, b"", Error::from_raw_os_error(NAME_TOO_LONG));
 }
 
-fn say_unknown(word: &[u8]) {
-    io::write_all(STDERR_FILENO, b"ragwashin: unknown word '");
-    io::write_all(STDERR_FILENO, word);
-    io::write_all(STDERR_FILENO, b"' (ragwashin --help lists the words)\n");
+fn say_unknown(rt: &HostRuntime, word: &[u8]) {
+    say(rt, b"ragwashin: unknown word '");
+    say(rt, word);
+    say(rt, b"' (ragwashin --help lists the words)\n");
 }
 
-fn say_one(words: &[u8]) {
-    io::write_all(STDERR_FILENO, b"ragwashin: ");
-    io::write_all(STDERR_FILENO, words);
-    io::write_all(
-        STDERR_FILENO,
+fn say_one(rt: &HostRuntime, words: &[u8]) {
+    say(rt, b"ragwashin: ");
+    say(rt, words);
+    say(
+        rt,
         b" take one file, and several are named: nothing is written\n",
     );
 }
 
-fn say_one_file(job: Job) {
+fn say_one_file(rt: &HostRuntime, job: Job) {
     match job {
-        Job::Make => say_one(b"make and text"),
-        Job::Text => say_one(b"make and text"),
-        Job::Answer(request) => say_one(b"script and ask"),
+        Job::Make => say_one(rt, b"make and text"),
+        Job::Text => say_one(rt, b"make and text"),
+        Job::Answer(_) => say_one(rt, b"script and ask"),
     }
 }
 
-fn say_one_reply() {
-    io::write_all(
-        STDERR_FILENO,
+fn say_one_reply(rt: &HostRuntime) {
+    say(
+        rt,
         b"ragwashin: reply takes a sheet and at most one reply to it: nothing is judged\n",
     );
 }
 
-fn say_long_text(name: &[u8]) {
-    io::write_all(STDERR_FILENO, b"ragwashin: ");
-    io::write_all(STDERR_FILENO, name);
-    io::write_all(
-        STDERR_FILENO,
+fn say_long_text(rt: &HostRuntime, name: &[u8]) {
+    say(rt, b"ragwashin: ");
+    say(rt, name);
+    say(
+        rt,
         b": the text has more than 65536 bytes: it is not judged\n",
     );
 }
 
-fn say_long_reply() {
-    io::write_all(
-        STDERR_FILENO,
+fn say_long_reply(rt: &HostRuntime) {
+    say(
+        rt,
         b"ragwashin: the reply has more than 65536 bytes: it is not judged\n",
     );
 }
 
 // A name stands before an answer where several files are named.
-fn write_line(name: &[u8], is_named: bool, text: &[u8]) -> bool {
+fn write_line(rt: &HostRuntime, name: &[u8], is_named: bool, text: &[u8]) -> Result<(), Error> {
+    let mut out = rt.stdout();
     if is_named {
-        if !io::write_all(STDOUT_FILENO, name) {
-            return false;
-        }
-        if !io::write_all(STDOUT_FILENO, b": ") {
-            return false;
-        }
+        write_all(&mut out, name)?;
+        write_all(&mut out, b": ")?;
     }
-    io::write_all(STDOUT_FILENO, text)
+    write_all(&mut out, text)
 }
 
-// Only a read that answers 0 tells that an input has ended, and not that a read of it failed; of a longer one no more than the most is looked at.
-fn has_ended(fd: i32, size: usize, most: usize) -> bool
-    ensures { size ≡ most → result ≡ true }
+// Only a read that gives 0 bytes tells that an input has ended, and not that a read of it failed; of a longer one no more than the most is looked at.
+fn has_ended<R: Read>(from: &mut R, size: usize, most: usize, reason: &mut Error) -> bool
+    ensures most { size ≡ most → result ≡ true }
+    ensures end { HasEnded (R.remaining from.old) (R.remaining from.new) size most result }
 {
     if size == most {
         return true;
     }
     let mut next = [0u8; 1];
-    libc::read(fd, &mut next) == 0
+    match from.read(&mut next) {
+        Ok(n) => n == 0,
+        Err(e) => {
+            *reason = e;
+            false
+        }
+    }
 }
 
 // An input's sheet: whether there is one, and how many bytes it has.
@@ -226,20 +339,22 @@ fn is_text(name: &[u8]) -> bool
 }
 
 // Writes an answer, or says why it can't.
-fn tell(name: &[u8], is_named: bool, text: &[u8]) {
-    if !write_line(name, is_named, text) {
-        say_failed(name, b"its answer cannot be written");
+fn tell(rt: &HostRuntime, name: &[u8], is_named: bool, text: &[u8]) {
+    if let Err(reason) = write_line(rt, name, is_named, text) {
+        say_failed(rt, name, b"its answer cannot be written", reason);
     }
 }
 
 // Reads a sheet.
-fn read_sheet(fd: i32, name: &[u8], sheet: &mut [u8]) -> Input
-    ensures { IsPrefixLen result.size sheet.new }
+fn read_sheet<R: Read>(rt: &HostRuntime, from: &mut R, name: &[u8], sheet: &mut [u8]) -> Input
+    ensures prefix_len { IsPrefixLen result.size sheet.new }
+    ensures bytes { result.is_taken ≡ true → HasRead (R.remaining from.old) (take result.size sheet.new) (length sheet.new) }
 {
-    let size = io::read_full(fd, sheet);
-    let is_read = has_ended(fd, size, sheet.len());
+    let mut reason = Error::from_raw_os_error(NO_REASON);
+    let size = read_full(from, sheet, &mut reason);
+    let is_read = has_ended(from, size, sheet.len(), &mut reason);
     if !is_read {
-        say_failed(name, b"cannot be read");
+        say_failed(rt, name, b"cannot be read", reason);
     }
     Input {
         is_taken: is_read,
@@ -248,13 +363,13 @@ fn read_sheet(fd: i32, name: &[u8], sheet: &mut [u8]) -> Input
 }
 
 // Makes the sheet of a text, or answers with the line of its refusal.
-fn make_sheet(text: &[u8], name: &[u8], is_named: bool, sheet: &mut [u8]) -> Input
+fn make_sheet(rt: &HostRuntime, text: &[u8], name: &[u8], is_named: bool, sheet: &mut [u8]) -> Input
     ensures { IsPrefixLen result.size sheet.new }
 {
     let mut line = [0u8; LONGEST_LINE];
     let source = sources::sheet_of(text, sheet, &mut line);
     if 0 < source.line {
-        tell(name, is_named, &line[..source.line]);
+        tell(rt, name, is_named, &line[..source.line]);
     }
     Input {
         is_taken: source.line == 0,
@@ -263,256 +378,269 @@ fn make_sheet(text: &[u8], name: &[u8], is_named: bool, sheet: &mut [u8]) -> Inp
 }
 
 // Reads a text, and makes its sheet. The text's room is given back before the sheet is answered for.
-fn read_text(fd: i32, name: &[u8], is_named: bool, sheet: &mut [u8]) -> Input
+#[inline(never)]
+fn read_text(
+    rt: &HostRuntime,
+    from: &mut impl Read,
+    name: &[u8],
+    is_named: bool,
+    sheet: &mut [u8],
+) -> Input
     ensures { IsPrefixLen result.size sheet.new }
 {
     let mut text = [0u8; MOST_TEXT_READ];
-    let size = io::read_full(fd, &mut text);
-    if !has_ended(fd, size, MOST_TEXT_READ) {
-        say_failed(name, b"cannot be read");
+    let mut reason = Error::from_raw_os_error(NO_REASON);
+    let size = read_full(from, &mut text, &mut reason);
+    if !has_ended(from, size, MOST_TEXT_READ, &mut reason) {
+        say_failed(rt, name, b"cannot be read", reason);
         return Input {
             is_taken: false,
             size: 0,
         };
     }
     if MOST_TEXT < size {
-        say_long_text(name);
+        say_long_text(rt, name);
         return Input {
             is_taken: false,
             size: 0,
         };
     }
-    make_sheet(&text[..size], name, is_named, sheet)
+    make_sheet(rt, &text[..size], name, is_named, sheet)
 }
 
 // Takes the sheet that a file has, or that its text makes.
-fn take_sheet(fd: i32, name: &[u8], is_named: bool, sheet: &mut [u8]) -> Input
-    ensures { IsPrefixLen result.size sheet.new }
+fn take_sheet<R: Read>(
+    rt: &HostRuntime,
+    from: &mut R,
+    name: &[u8],
+    is_named: bool,
+    sheet: &mut [u8],
+) -> Input
+    ensures prefix_len { IsPrefixLen result.size sheet.new }
+    ensures bytes { is_text name.now ≡ false → result.is_taken ≡ true → HasRead (R.remaining from.old) (take result.size sheet.new) (length sheet.new) }
 {
     if is_text(name) {
-        return read_text(fd, name, is_named, sheet);
+        return read_text(rt, from, name, is_named, sheet);
     }
-    read_sheet(fd, name, sheet)
+    read_sheet(rt, from, name, sheet)
 }
 
 // Answers one input.
-fn answer(request: Request, fd: i32, name: &[u8], is_named: bool) {
+#[inline(never)]
+fn answer(rt: &HostRuntime, request: Request, from: &mut impl Read, name: &[u8], is_named: bool) {
     let mut sheet = [0u8; MOST_READ];
-    let input = take_sheet(fd, name, is_named, &mut sheet);
+    let input = take_sheet(rt, from, name, is_named, &mut sheet);
     if input.is_taken {
         let mut room = [0u8; ENOUGH_ROOM];
         let length = answers::answer(request, &sheet[..input.size], &mut room);
-        tell(name, is_named, &room[..length]);
+        tell(rt, name, is_named, &room[..length]);
     }
 }
 
 // Writes the sheet of a text.
-fn write_sheet(fd: i32, name: &[u8]) {
+#[inline(never)]
+fn write_sheet(rt: &HostRuntime, from: &mut impl Read, name: &[u8]) {
     let mut sheet = [0u8; MOST_READ];
-    let input = read_text(fd, name, false, &mut sheet);
+    let input = read_text(rt, from, name, false, &mut sheet);
     if input.is_taken {
-        tell(name, false, &sheet[..input.size]);
+        tell(rt, name, false, &sheet[..input.size]);
     }
 }
 
 // Writes the text of a sheet.
-fn write_text(fd: i32, name: &[u8]) {
+#[inline(never)]
+fn write_text(rt: &HostRuntime, from: &mut impl Read, name: &[u8]) {
     let mut sheet = [0u8; MOST_READ];
-    let input = read_sheet(fd, name, &mut sheet);
+    let input = read_sheet(rt, from, name, &mut sheet);
     if input.is_taken {
         let mut room = [0u8; LONGEST_TEXT];
         let length = sources::text_answer(&sheet[..input.size], &mut room);
-        tell(name, false, &room[..length]);
+        tell(rt, name, false, &room[..length]);
     }
 }
 
 // Does what is asked with one input.
-fn work(job: Job, fd: i32, name: &[u8], is_named: bool) {
+fn work(rt: &HostRuntime, job: Job, from: &mut impl Read, name: &[u8], is_named: bool) {
     match job {
-        Job::Make => write_sheet(fd, name),
-        Job::Text => write_text(fd, name),
-        Job::Answer(request) => answer(request, fd, name, is_named),
+        Job::Make => write_sheet(rt, from, name),
+        Job::Text => write_text(rt, from, name),
+        Job::Answer(request) => answer(rt, request, from, name, is_named),
     }
 }
 
-// Opens the file that an argument names; below 0 where it can't, which is said.
-fn open_argument(place: usize) -> i32 {
-    let mut path = io::buffer();
-    let size = os::arg(place, &mut path);
-    if os::errno() != 0 {
-        say_too_long(place);
-        return -1;
+// How many arguments there are, the program's name among them.
+fn arg_count(rt: &HostRuntime) -> usize {
+    for place in 0..usize::MAX {
+        if let Err(FillError::NotPresent) = rt.arg(place, &mut [0u8; 0]) {
+            return place;
+        }
     }
-    let fd = os::open_read(&path[..size]);
-    if fd < 0 {
-        say_failed(&path[..size], b"cannot be opened");
+    usize::MAX
+}
+
+// Puts an argument to the front of the room and gives its size; says so where it is too long.
+fn argument(rt: &HostRuntime, place: usize, room: &mut [u8]) -> Option<usize>
+    ensures { IfSome result (λ n. n ≤ length room.new) }
+{
+    match rt.arg(place, room) {
+        Ok(size) => Some(size),
+        Err(_) => {
+            say_too_long(rt, place);
+            None
+        }
     }
-    fd
+}
+
+// Opens a file to read it. A path of std's is text.
+fn open_read(rt: &HostRuntime, name: &[u8]) -> Result<File, Error> {
+    match from_utf8(name) {
+        Ok(path) => File::open(rt, path),
+        Err(_) => Err(Error::from_raw_os_error(NO_UTF8)),
+    }
+}
+
+// Opens the file that an argument names, or says why it can't.
+fn open_argument(rt: &HostRuntime, name: &[u8]) -> Option<File> {
+    match open_read(rt, name) {
+        Ok(file) => Some(file),
+        Err(reason) => {
+            say_failed(rt, name, b"cannot be opened", reason);
+            None
+        }
+    }
 }
 
 // Works on the file that an argument names.
-fn work_on_file(job: Job, place: usize, is_named: bool) {
-    let fd = open_argument(place);
-    if fd < 0 {
-        return;
-    }
+fn work_on_file(rt: &HostRuntime, job: Job, place: usize, is_named: bool) {
     let mut path = io::buffer();
-    let size = os::arg(place, &mut path);
-    work(job, fd, &path[..size], is_named);
-    libc::close(fd);
+    let Some(size) = argument(rt, place, &mut path) else {
+        return;
+    };
+    let Some(mut file) = open_argument(rt, &path[..size]) else {
+        return;
+    };
+    work(rt, job, &mut file, &path[..size], is_named);
 }
 
 // Works on each file up to the last argument, whatever became of those before it.
-fn work_on_files(job: Job, arguments: usize) {
+fn work_on_files(rt: &HostRuntime, job: Job, arguments: usize) {
     for place in FIRST_FILE..arguments {
-        work_on_file(job, place, true);
+        work_on_file(rt, job, place, true);
     }
 }
 
-fn work_on_all(job: Job, arguments: usize) {
+fn work_on_all(rt: &HostRuntime, job: Job, arguments: usize) {
     if arguments <= FIRST_FILE {
-        work(job, STDIN_FILENO, b"standard input", false);
+        work(rt, job, &mut rt.stdin(), b"standard input", false);
     } else if arguments == FIRST_FILE + 1 {
-        work_on_file(job, FIRST_FILE, false);
+        work_on_file(rt, job, FIRST_FILE, false);
     } else if gives_lines(job) {
-        work_on_files(job, arguments);
+        work_on_files(rt, job, arguments);
     } else {
-        say_one_file(job);
+        say_one_file(rt, job);
     }
 }
 
 // Judges the reply that an open file has.
-fn judge(sheet: &[u8], fd: i32) {
+#[inline(never)]
+fn judge(rt: &HostRuntime, sheet: &[u8], from: &mut impl Read) {
     let mut reply = [0u8; MOST_REPLY_READ];
-    let size = io::read_full(fd, &mut reply);
-    if !has_ended(fd, size, MOST_REPLY_READ) {
-        say_failed(b"the reply", b"cannot be read");
+    let mut reason = Error::from_raw_os_error(NO_REASON);
+    let size = read_full(from, &mut reply, &mut reason);
+    if !has_ended(from, size, MOST_REPLY_READ, &mut reason) {
+        say_failed(rt, b"the reply", b"cannot be read", reason);
         return;
     }
     if MOST_REPLY < size {
-        say_long_reply();
+        say_long_reply(rt);
         return;
     }
     let mut room = [0u8; ENOUGH_ROOM];
     let length = answers::reply_answer(sheet, &reply[..size], &mut room);
-    tell(b"the reply", false, &room[..length]);
+    tell(rt, b"the reply", false, &room[..length]);
+}
+
+// Opens the file with the reply.
+#[inline(never)]
+fn open_reply(rt: &HostRuntime) -> Option<File> {
+    let mut path = io::buffer();
+    let size = argument(rt, REPLY_FILE, &mut path)?;
+    open_argument(rt, &path[..size])
 }
 
 // Judges the reply in a file, or on standard input where none is named.
-fn judge_reply(sheet: &[u8], arguments: usize) {
+fn judge_reply(rt: &HostRuntime, sheet: &[u8], arguments: usize) {
     if arguments <= REPLY_FILE {
-        judge(sheet, STDIN_FILENO);
+        judge(rt, sheet, &mut rt.stdin());
         return;
     }
-    let fd = open_argument(REPLY_FILE);
-    if fd < 0 {
-        return;
+    if let Some(mut file) = open_reply(rt) {
+        judge(rt, sheet, &mut file);
     }
-    judge(sheet, fd);
-    libc::close(fd);
 }
 
 // Takes the sheet that is replied to.
-fn take_replied(fd: i32, name: &[u8], sheet: &mut [u8]) -> Input
-    ensures { IsPrefixLen result.size sheet.new }
+fn take_replied<R: Read>(rt: &HostRuntime, from: &mut R, name: &[u8], sheet: &mut [u8]) -> Input
+    ensures prefix_len { IsPrefixLen result.size sheet.new }
+    ensures bytes { is_text name.now ≡ false → result.is_taken ≡ true → HasRead (R.remaining from.old) (take result.size sheet.new) (length sheet.new) }
 {
     if is_text(name) {
-        return read_text(fd, name, false, sheet);
+        return read_text(rt, from, name, false, sheet);
     }
-    read_sheet(fd, b"the sheet", sheet)
+    read_sheet(rt, from, b"the sheet", sheet)
 }
 
 // Takes the sheet of an open file, and judges the reply to it. The file is closed first: it has standard input's number where that is closed.
-fn judge_by(fd: i32, name: &[u8], arguments: usize) {
+#[inline(never)]
+fn judge_by(rt: &HostRuntime, mut file: File, name: &[u8], arguments: usize) {
     let mut sheet = [0u8; MOST_READ];
-    let input = take_replied(fd, name, &mut sheet);
-    libc::close(fd);
+    let input = take_replied(rt, &mut file, name, &mut sheet);
+    drop(file);
     if input.is_taken {
-        judge_reply(&sheet[..input.size], arguments);
+        judge_reply(rt, &sheet[..input.size], arguments);
     }
 }
 
 // The word `reply`: a sheet, and at most one reply.
-fn reply(arguments: usize) {
+fn reply(rt: &HostRuntime, arguments: usize) {
     if arguments <= FIRST_FILE {
-        say_one_reply();
+        say_one_reply(rt);
         return;
     }
     if REPLY_FILE + 1 < arguments {
-        say_one_reply();
-        return;
-    }
-    let fd = open_argument(FIRST_FILE);
-    if fd < 0 {
+        say_one_reply(rt);
         return;
     }
     let mut path = io::buffer();
-    let size = os::arg(FIRST_FILE, &mut path);
-    judge_by(fd, &path[..size], arguments);
-}
-
-fn help() {
-    let is_written = io::write_all(
-        STDOUT_FILENO,
-        b"usage: ragwashin [WORD [FILE ...]]
-
-Answers about each FILE, a rule sheet, or a rule's text where the name ends in
-.rule; about a sheet on standard input where none is named.
-
-  read    accepted
-  check   holds, or fails NAME=VALUE ...: the first failing case
-  tally   held H failed F: how many cases held and how many failed
-  script  the script for an SMT solver, of one FILE; so too where WORD is left out
-  ask     the same, and it asks for a failing case
-  make    the sheet of one text, whatever its name, or of standard input
-  text    the text of one sheet
-  --help  this text
-
-ragwashin reply SHEET [REPLY] judges what a solver answered to ask, in the file
-REPLY or on standard input: fails NAME=VALUE ..., a case that was tried and does
-fail, or unsat claimed. A reply off its grammar is refused 11, a value off its
-domain 12, a case that does not fail 13.
-
-./ragwashin solve FILE ... asks a solver (z3 or cvc5, or the command in
-RAGWASHIN_SOLVER, for 60 seconds or RAGWASHIN_SECONDS) and judges its reply.
-
-A text has a line 'var NAME MIN MAX' for each variable, then a line 'goal' with
-an expression, each word before its operands: true false not and or implies iff
-eq lt le neg add sub mul if, decimal numbers, and the variables' names.
-
-A sheet that is turned away is answered by 'refused R at P', a text so too, with
-' (line L column C)' behind it where it points at a byte. Where two or more files
-are named, 'FILE: ' stands before each answer.
-  refused 18: no text begins like this; P is the first byte that fits none
-  refused 19: no text can be written, since the name of variable P is a word
-
-Exit status of ./ragwashin: 0 accepted, holds, written, none failed, or unsat
-claimed; 1 fails, or some failed; 2 refused; 3 anything else, with a message on
-standard error. Of several files the highest.
-",
-    );
-    if !is_written {
-        say_failed(b"--help", b"cannot be written");
+    let Some(size) = argument(rt, FIRST_FILE, &mut path) else {
+        return;
+    };
+    if let Some(file) = open_argument(rt, &path[..size]) {
+        judge_by(rt, file, &path[..size], arguments);
     }
 }
 
-fn main() {
-    let arguments = os::arg_count();
+fn help(rt: &HostRuntime) {
+    if let Err(reason) = write_all(&mut rt.stdout(), HELP.as_bytes()) {
+        say_failed(rt, b"--help", b"cannot be written", reason);
+    }
+}
+
+fn main(rt: HostRuntime) {
+    let arguments = arg_count(&rt);
     if arguments < FIRST_FILE {
-        work_on_all(Job::Answer(Request::Script), arguments);
+        work_on_all(&rt, Job::Answer(Request::Script), arguments);
         return;
     }
     let mut text = io::buffer();
-    let size = os::arg(1, &mut text);
-    if os::errno() != 0 {
-        say_too_long(1);
+    let Some(size) = argument(&rt, 1, &mut text) else {
         return;
-    }
+    };
     let word = word_of(&text[..size]);
     match word {
-        Word::Unknown => say_unknown(&text[..size]),
-        Word::Help => help(),
-        Word::Reply => reply(arguments),
-        Word::Asks(job) => work_on_all(job, arguments),
+        Word::Unknown => say_unknown(&rt, &text[..size]),
+        Word::Help => help(&rt),
+        Word::Reply => reply(&rt, arguments),
+        Word::Asks(job) => work_on_all(&rt, job, arguments),
     }
 }
