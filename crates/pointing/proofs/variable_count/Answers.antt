@@ -1,0 +1,10 @@
+-- `variable_count` meets its contract: a line feed for each variable, and one for the goal. Assumes nothing.
+use native.Mathlib.Omega.{arith}
+use Rattle.texts.proofs.CountLaws.{line-feeds}
+use Rattle.pointing.proofs.variable_count.Goals as goal
+
+pub overflow_sub-result : goal.overflow_sub-result
+overflow_sub-result c = omega (arith, c.occurrences.ensures, line-feeds c.requires.says)
+
+pub returns : goal.returns
+returns c = λ d h. omega (arith, c.occurrences.ensures, line-feeds h)
