@@ -1,5 +1,5 @@
 -- The 16 bits of an integer, as the machine finds them: the integer itself, or 65,536 more where it is below 0. Assumes nothing.
-use Prim.Native.Nat.{◌+◌, ◌<◌}
+use Prim.Native.Nat.{◌+◌}
 use mathlib.Core.Path.{◌≡◌, ◌∙◌}
 use mathlib.Core.Bool.{true, false}
 use lib.Dec.{T}
