@@ -1,0 +1,97 @@
+-- `terms::term` and the functions that it calls on its operands meet their contracts: the node's number falls. Assumes nothing.
+use mathlib.Core.Path.{sym, ap}
+use native.Mathlib.Omega.{arith}
+use lib.ListN.{length}
+use Rattle.numbers.specs.Two.{dec}
+use Rattle.room.proofs.RoomLaws.{wrote_none, wrote_as, chain, wrote-part}
+use Rattle.pieces.proofs.PieceLaws.{literal-length}
+use Rattle.terms.proofs.TextLaws.{inside, node-text, valued-text, named_small, one-node, two-node, three-node, wrote_one, wrote-two, wrote-three}
+use Rattle.terms.proofs.+one_operand_term_three_two.Goals as goal
+
+pub one-operand-q-requires : goal.one-operand-q-requires
+one-operand-q-requires t c = (omega arith, (c.requires.0, omega arith))
+
+pub one-returns : goal.one-returns
+one-returns t c =
+    wrote_one (omega arith) c.head-p.ensures c.operand-q.ensures c.put.ensures
+
+pub operand-returns : goal.operand-returns
+operand-returns t c = chain (omega arith) c.put-next.ensures (wrote-part _ c.term.ensures)
+
+pub term-record_at-fields-requires : goal.term-record_at-fields-requires
+term-record_at-fields-requires t c = inside c.requires.0
+
+pub term-put_word-requires : goal.term-put_word-requires
+term-put_word-requires t c = omega (arith, ap length (node-text c.requires.0 c.record_at-fields.ensures c.shape_of.ensures c.in-Bare.is))
+
+pub term-constant-requires : goal.term-constant-requires
+term-constant-requires t c = omega (arith, ap length (node-text c.requires.0 c.record_at-fields.ensures c.shape_of.ensures c.in-Valued.is), literal-length (dec 16 c.record_at-fields.result.value))
+
+pub term-symbol-requires : goal.term-symbol-requires
+term-symbol-requires t c =
+    (named_small c.requires.0 c.record_at-fields.ensures c.shape_of.ensures c.in-Named.is, omega (arith, ap length (node-text c.requires.0 c.record_at-fields.ensures c.shape_of.ensures c.in-Named.is)))
+
+pub term-one-requires : goal.term-one-requires
+term-one-requires t c =
+    let o = one-node c.requires.0 c.record_at-fields.ensures c.shape_of.ensures c.in-One.is in
+    (omega arith, (o.first, omega arith))
+
+pub term-two-requires : goal.term-two-requires
+term-two-requires t c =
+    let o = two-node c.requires.0 c.record_at-fields.ensures c.shape_of.ensures c.in-Two.is in
+    (omega arith, (o.first, o.second, omega arith))
+
+pub term-three-requires : goal.term-three-requires
+term-three-requires t c =
+    let o = three-node c.requires.0 c.record_at-fields.ensures c.shape_of.ensures c.in-Three.is in
+    (omega arith, (o.first, o.second, o.third, omega arith))
+
+pub term-returns-in-Wrong : goal.term-returns-in-Wrong
+term-returns-in-Wrong t c = wrote_as (wrote_none _ 0) (sym (node-text c.requires.0 c.record_at-fields.ensures c.shape_of.ensures c.in-Wrong.is))
+
+pub term-returns-in-Bare : goal.term-returns-in-Bare
+term-returns-in-Bare t c =
+    wrote_as c.put_word.ensures (sym (node-text c.requires.0 c.record_at-fields.ensures c.shape_of.ensures c.in-Bare.is))
+
+pub term-returns-in-Valued : goal.term-returns-in-Valued
+term-returns-in-Valued t c =
+    wrote_as c.constant.ensures (valued-text c.requires.0 c.record_at-fields.ensures c.shape_of.ensures (λ i. omega (arith, c.type_inv.sheet i)) c.in-Valued.is)
+
+pub term-returns-in-Named : goal.term-returns-in-Named
+term-returns-in-Named t c =
+    wrote_as c.symbol.ensures (sym (node-text c.requires.0 c.record_at-fields.ensures c.shape_of.ensures c.in-Named.is))
+
+pub term-returns-in-One : goal.term-returns-in-One
+term-returns-in-One t c =
+    wrote_as c.one.ensures (sym (node-text c.requires.0 c.record_at-fields.ensures c.shape_of.ensures c.in-One.is))
+
+pub term-returns-in-Two : goal.term-returns-in-Two
+term-returns-in-Two t c =
+    wrote_as c.two.ensures (sym (node-text c.requires.0 c.record_at-fields.ensures c.shape_of.ensures c.in-Two.is))
+
+pub term-returns-in-Three : goal.term-returns-in-Three
+term-returns-in-Three t c =
+    wrote_as c.three.ensures (sym (node-text c.requires.0 c.record_at-fields.ensures c.shape_of.ensures c.in-Three.is))
+
+pub three-operand-q-requires : goal.three-operand-q-requires
+three-operand-q-requires t c = (omega arith, (c.requires.0, omega arith))
+
+pub three-operand-r-requires : goal.three-operand-r-requires
+three-operand-r-requires t c = (omega arith, (c.requires.1, omega arith))
+
+pub three-operand-s-requires : goal.three-operand-s-requires
+three-operand-s-requires t c = (omega arith, (c.requires.2, omega arith))
+
+pub three-returns : goal.three-returns
+three-returns t c =
+    wrote-three (omega arith) c.head-p.ensures c.operand-q.ensures c.operand-r.ensures c.operand-s.ensures c.put.ensures
+
+pub two-operand-q-requires : goal.two-operand-q-requires
+two-operand-q-requires t c = (omega arith, (c.requires.0, omega arith))
+
+pub two-operand-r-requires : goal.two-operand-r-requires
+two-operand-r-requires t c = (omega arith, (c.requires.1, omega arith))
+
+pub two-returns : goal.two-returns
+two-returns t c =
+    wrote-two (omega arith) c.head-p.ensures c.operand-q.ensures c.operand-r.ensures c.put.ensures
