@@ -1,0 +1,6 @@
+-- `maker::put_between` meets its contract: the name as it stands, and the numbers as the machine keeps them. Assumes nothing.
+use Rattle.maker.proofs.LineLaws.{numbers-kept}
+use Rattle.maker.proofs.put_between.Goals as goal
+
+pub returns : goal.returns
+returns c = numbers-kept c.requires c.number_at-low.ensures c.number_at-high.ensures _ c.put_variable.ensures
