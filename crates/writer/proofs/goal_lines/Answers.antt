@@ -1,0 +1,22 @@
+-- `writer::goal_lines` meets its contract: the lines from their three pieces. Assumes nothing.
+use mathlib.Core.Path.{ap}
+use native.Mathlib.Omega.{arith}
+use lib.ListN.{length}
+use Rattle.terms.specs.Texts.{text_at}
+use Rattle.room.proofs.RoomLaws.{wrote_as, chain3}
+use Rattle.writer.proofs.ScriptLaws.{goal-ready, goal-length, goal-from}
+use Rattle.writer.proofs.goal_lines.Goals as goal
+
+pub put-p-requires : goal.put-p-requires
+put-p-requires c = omega (arith, goal-length _ c.requires.0)
+
+pub operand-q-requires : goal.operand-q-requires
+operand-q-requires c = let g = c.goal_node-goal.ensures in (goal-ready _ c.requires.0 g, omega (arith, goal-length _ c.requires.0, ap (λ n. length (text_at c.args.sheet.now n)) g))
+
+pub put-requires : goal.put-requires
+put-requires c =
+    omega (arith, goal-length _ c.requires.0, ap (λ n. length (text_at c.args.sheet.now n)) c.goal_node-goal.ensures)
+
+pub returns : goal.returns
+returns c =
+    wrote_as (chain3 (omega (arith, goal-length _ c.requires.0, ap (λ n. length (text_at c.args.sheet.now n)) c.goal_node-goal.ensures)) c.put-p.ensures c.operand-q.ensures c.put.ensures) (goal-from _ c.goal_node-goal.ensures)

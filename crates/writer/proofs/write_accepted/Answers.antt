@@ -1,0 +1,10 @@
+-- `writer::write_accepted` meets its contract: refusal 9 at the bytes needed, or the script. Assumes nothing.
+use native.Mathlib.Omega.{arith}
+use Rattle.writer.proofs.WritesLaws.{room-short, script-written}
+use Rattle.writer.proofs.write_accepted.Goals as goal
+
+pub returns-then-room-size : goal.returns-then-room-size
+returns-then-room-size c = room-short _ _ c.requires _ c.script_len-size.ensures c.if-room-size.true
+
+pub returns : goal.returns
+returns c = script-written _ _ c.requires (omega arith) c.put_script.ensures
