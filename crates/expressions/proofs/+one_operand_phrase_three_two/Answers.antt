@@ -1,0 +1,117 @@
+-- `expressions::phrase` and the functions that it calls on its operands meet their contracts: the node's number falls. Assumes nothing.
+use mathlib.Core.Path.{sym, ap}
+use native.Mathlib.Omega.{arith}
+use lib.ListN.{length}
+use Rattle.kinds.specs.Kinds.{row}
+use Rattle.room.proofs.RoomLaws.{wrote_as, chain, wrote-part}
+use Rattle.expressions.specs.Phrases.{phrase_at}
+use Rattle.expressions.proofs.PhraseLaws.{length-1, length-2, length-3, wrote_one, wrote-two, wrote-three, inside, node-text, never-wrong, one-node, two-node, three-node, named-variable, named-text}
+use Rattle.expressions.proofs.+one_operand_phrase_three_two.Goals as goal
+
+pub one-put_word-p-requires : goal.one-put_word-p-requires
+one-put_word-p-requires t c = let a = c.args in omega (arith, length-1 (row a.fields.kind).plain (phrase_at a.sheet.now a.fields.a))
+
+pub one-operand-requires : goal.one-operand-requires
+one-operand-requires t c =
+    let a = c.args in
+    (omega arith, (c.requires.0, omega (arith, length-1 (row a.fields.kind).plain (phrase_at a.sheet.now a.fields.a))))
+
+pub one-returns : goal.one-returns
+one-returns t c =
+    wrote_one (omega arith) c.put_word-p.ensures c.operand.ensures
+
+pub operand-returns : goal.operand-returns
+operand-returns t c = chain (omega arith) c.put-next.ensures (wrote-part _ c.phrase.ensures)
+
+pub phrase-record_at-fields-requires : goal.phrase-record_at-fields-requires
+phrase-record_at-fields-requires t c = inside c.requires.0
+
+pub phrase-put_word-requires : goal.phrase-put_word-requires
+phrase-put_word-requires t c = omega (arith, ap length (node-text c.requires.0 c.record_at-fields.ensures c.shape_of.ensures c.in-Bare.is))
+
+pub phrase-put_value-requires : goal.phrase-put_value-requires
+phrase-put_value-requires t c = omega (arith, ap length (node-text c.requires.0 c.record_at-fields.ensures c.shape_of.ensures c.in-Valued.is))
+
+pub phrase-put_name-requires : goal.phrase-put_name-requires
+phrase-put_name-requires t c = (named-variable c.requires.0 c.record_at-fields.ensures c.shape_of.ensures c.in-Named.is, omega (arith, ap length (named-text c.requires.0 c.record_at-fields.ensures c.shape_of.ensures c.in-Named.is)))
+
+pub phrase-one-requires : goal.phrase-one-requires
+phrase-one-requires t c =
+    let o = one-node c.requires.0 c.record_at-fields.ensures c.shape_of.ensures c.in-One.is in
+    (omega (arith, o.0), (o.1, omega (arith, ap length (node-text c.requires.0 c.record_at-fields.ensures c.shape_of.ensures c.in-One.is))))
+
+pub phrase-two-requires : goal.phrase-two-requires
+phrase-two-requires t c =
+    let o = two-node c.requires.0 c.record_at-fields.ensures c.shape_of.ensures c.in-Two.is in
+    (omega (arith, o.0, o.1), (o.2, o.3, omega (arith, ap length (node-text c.requires.0 c.record_at-fields.ensures c.shape_of.ensures c.in-Two.is))))
+
+pub phrase-three-requires : goal.phrase-three-requires
+phrase-three-requires t c =
+    let o = three-node c.requires.0 c.record_at-fields.ensures c.shape_of.ensures c.in-Three.is in
+    (omega (arith, o.0, o.1, o.2), (o.3, o.4, o.5, omega (arith, ap length (node-text c.requires.0 c.record_at-fields.ensures c.shape_of.ensures c.in-Three.is))))
+
+pub phrase-returns-in-Wrong : goal.phrase-returns-in-Wrong
+phrase-returns-in-Wrong t c = absurd (never-wrong c.requires.0 c.record_at-fields.ensures c.shape_of.ensures c.in-Wrong.is)
+
+pub phrase-returns-in-Bare : goal.phrase-returns-in-Bare
+phrase-returns-in-Bare t c =
+    wrote_as c.put_word.ensures (sym (node-text c.requires.0 c.record_at-fields.ensures c.shape_of.ensures c.in-Bare.is))
+
+pub phrase-returns-in-Valued : goal.phrase-returns-in-Valued
+phrase-returns-in-Valued t c =
+    wrote_as c.put_value.ensures (sym (node-text c.requires.0 c.record_at-fields.ensures c.shape_of.ensures c.in-Valued.is))
+
+pub phrase-returns-in-Named : goal.phrase-returns-in-Named
+phrase-returns-in-Named t c =
+    wrote_as c.put_name.ensures (named-text c.requires.0 c.record_at-fields.ensures c.shape_of.ensures c.in-Named.is)
+
+pub phrase-returns-in-One : goal.phrase-returns-in-One
+phrase-returns-in-One t c =
+    wrote_as c.one.ensures (sym (node-text c.requires.0 c.record_at-fields.ensures c.shape_of.ensures c.in-One.is))
+
+pub phrase-returns-in-Two : goal.phrase-returns-in-Two
+phrase-returns-in-Two t c =
+    wrote_as c.two.ensures (sym (node-text c.requires.0 c.record_at-fields.ensures c.shape_of.ensures c.in-Two.is))
+
+pub phrase-returns-in-Three : goal.phrase-returns-in-Three
+phrase-returns-in-Three t c =
+    wrote_as c.three.ensures (sym (node-text c.requires.0 c.record_at-fields.ensures c.shape_of.ensures c.in-Three.is))
+
+pub three-put_word-p-requires : goal.three-put_word-p-requires
+three-put_word-p-requires t c = let a = c.args in omega (arith, length-3 (row a.fields.kind).plain (phrase_at a.sheet.now a.fields.a) (phrase_at a.sheet.now a.fields.b) (phrase_at a.sheet.now a.fields.c))
+
+pub three-operand-q-requires : goal.three-operand-q-requires
+three-operand-q-requires t c =
+    let a = c.args in
+    (omega arith, (c.requires.0, omega (arith, length-3 (row a.fields.kind).plain (phrase_at a.sheet.now a.fields.a) (phrase_at a.sheet.now a.fields.b) (phrase_at a.sheet.now a.fields.c))))
+
+pub three-operand-r-requires : goal.three-operand-r-requires
+three-operand-r-requires t c =
+    let a = c.args in
+    (omega arith, (c.requires.1, omega (arith, length-3 (row a.fields.kind).plain (phrase_at a.sheet.now a.fields.a) (phrase_at a.sheet.now a.fields.b) (phrase_at a.sheet.now a.fields.c))))
+
+pub three-operand-requires : goal.three-operand-requires
+three-operand-requires t c =
+    let a = c.args in
+    (omega arith, (c.requires.2, omega (arith, length-3 (row a.fields.kind).plain (phrase_at a.sheet.now a.fields.a) (phrase_at a.sheet.now a.fields.b) (phrase_at a.sheet.now a.fields.c))))
+
+pub three-returns : goal.three-returns
+three-returns t c =
+    wrote-three (omega arith) c.put_word-p.ensures c.operand-q.ensures c.operand-r.ensures c.operand.ensures
+
+pub two-put_word-p-requires : goal.two-put_word-p-requires
+two-put_word-p-requires t c = let a = c.args in omega (arith, length-2 (row a.fields.kind).plain (phrase_at a.sheet.now a.fields.a) (phrase_at a.sheet.now a.fields.b))
+
+pub two-operand-q-requires : goal.two-operand-q-requires
+two-operand-q-requires t c =
+    let a = c.args in
+    (omega arith, (c.requires.0, omega (arith, length-2 (row a.fields.kind).plain (phrase_at a.sheet.now a.fields.a) (phrase_at a.sheet.now a.fields.b))))
+
+pub two-operand-requires : goal.two-operand-requires
+two-operand-requires t c =
+    let a = c.args in
+    (omega arith, (c.requires.1, omega (arith, length-2 (row a.fields.kind).plain (phrase_at a.sheet.now a.fields.a) (phrase_at a.sheet.now a.fields.b))))
+
+pub two-returns : goal.two-returns
+two-returns t c =
+    wrote-two (omega arith) c.put_word-p.ensures c.operand-q.ensures c.operand.ensures

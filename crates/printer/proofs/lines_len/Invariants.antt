@@ -1,0 +1,13 @@
+-- `printer::lines_len` meets its contract: after i turns the lines of the first i variables are counted. Assumes nothing.
+use Prim.Native.Nat.{◌-◌, ◌≤◌}
+use mathlib.Core.Path.{◌≡◌}
+use lib.ListN.{length}
+use Rattle.lists.specs.Joined.{joined_below}
+use Rattle.printer.specs.Lines.{line_at}
+use Rattle.printer.proofs.lines_len.Given as goal
+
+abbrev pub invariant-loop-i : goal.invariant-loop-i
+invariant-loop-i l = (l.i ≤ l.count) × (l.size ≡ length (joined_below (line_at l.sheet) l.i))
+
+abbrev pub decreases-loop-i : goal.decreases-loop-i
+decreases-loop-i l = l.count - l.i
