@@ -16,7 +16,7 @@ use Rattle.refusals.proofs.SaidLaws.{unless-none, unless-true}
 use Rattle.refusals.proofs.AfterLaws.{passed, passes}
 use Rattle.refusals.proofs.BoundLaws.{Bounded, bounded-row, bounded-then, bounded-each, bounded-answer}
 use Rattle.layout.specs.Limits.{block_bytes, most_variables, most_nodes, most_sheet_bytes}
-use Rattle.layout.specs.Parts.{node_count, variable_count}
+use Rattle.layout.specs.Parts.{node_count, variable_count, goal_at}
 use Rattle.reading.specs.Rows.{Row1, Row2, Row3, Row4, Row5, Row6, Row7, Row8, GoalSubtree, GoalType, sheet_rows}
 use Rattle.reading.specs.Cascade.{refusal_of}
 use Rattle.grammar.specs.Begins.{Leaves}
@@ -66,28 +66,28 @@ module _ (limit : ℕ) (d : Draft) (room : ℕ) where
 abbrev Numbered : ℕ → ℕ → Type 0
 Numbered number place = (1 ≤ number) × (number ≤ 9)
 
-numbered : {n p : ℕ} (C : Type 0) → 1 ≤ n → n ≤ 9 → Bounded Numbered (row n p C)
-numbered {n} {p} C l h = bounded-row n p C (λ c. (l, h))
+numbered : (n p : ℕ) (C : Type 0) → 1 ≤ n → n ≤ 9 → Bounded Numbered (row n p C)
+numbered n p C l h = bounded-row n p C (λ c. (l, h))
 
 node-numbers : (s : List ℕ) (n : ℕ) → Bounded Numbered (row 6 n (Row6 s n) then row 7 n (Row7 s n) then row 8 n (Row8 s n))
-node-numbers s n = bounded-then (numbered (Row6 s n) (omega arith) (omega arith)) (λ a. bounded-then (numbered (Row7 s n) (omega arith) (omega arith)) (λ b. numbered (Row8 s n) (omega arith) (omega arith)))
+node-numbers s n = bounded-then (numbered 6 n (Row6 s n) (omega arith) (omega arith)) (λ a. bounded-then (numbered 7 n (Row7 s n) (omega arith) (omega arith)) (λ b. numbered 8 n (Row8 s n) (omega arith) (omega arith)))
 
 sheet-numbers : (limit : ℕ) (s : List ℕ) → Bounded Numbered (sheet_rows limit s)
 unfolding sheet_rows
 sheet-numbers limit s =
-    bounded-then (numbered (Row1 limit s) (omega arith) (omega arith))
-    (λ a. bounded-then (bounded-each (length s / block_bytes) 0 (λ k i l. numbered (Row2 s k) (omega arith) (omega arith)))
-    (λ b. bounded-then (numbered (Row3 s) (omega arith) (omega arith))
-    (λ c. bounded-then (numbered (Row4 limit s) (omega arith) (omega arith))
-    (λ d. bounded-then (bounded-each (variable_count s) 0 (λ k i l. numbered (Row5 s k) (omega arith) (omega arith)))
+    bounded-then (numbered 1 0 (Row1 limit s) (omega arith) (omega arith))
+    (λ a. bounded-then (bounded-each (length s / block_bytes) 0 (λ k i l. numbered 2 k (Row2 s k) (omega arith) (omega arith)))
+    (λ b. bounded-then (numbered 3 0 (Row3 s) (omega arith) (omega arith))
+    (λ c. bounded-then (numbered 4 0 (Row4 limit s) (omega arith) (omega arith))
+    (λ d. bounded-then (bounded-each (variable_count s) 0 (λ k i l. numbered 5 k (Row5 s k) (omega arith) (omega arith)))
     (λ e. bounded-then (bounded-each (node_count s) 0 (λ k i l. node-numbers s k))
-    (λ f. bounded-then (numbered (GoalSubtree s) (omega arith) (omega arith))
-    (λ g. numbered (GoalType s) (omega arith) (omega arith))))))))
+    (λ f. bounded-then (numbered 6 (goal_at s) (GoalSubtree s) (omega arith) (omega arith))
+    (λ g. numbered 7 (goal_at s) (GoalType s) (omega arith) (omega arith))))))))
 
 pub draft-numbers : (limit : ℕ) (d : Draft) (room : ℕ) → Bounded Numbered (draft_rows limit d room)
 draft-numbers limit d room =
-    bounded-then (numbered (made.Row4 limit d) (omega arith) (omega arith))
-    (λ a. bounded-then (sheet-numbers limit (draft_sheet d)) (λ b. numbered (made.Row9 d room) (omega arith) (omega arith)))
+    bounded-then (numbered 4 0 (made.Row4 limit d) (omega arith) (omega arith))
+    (λ a. bounded-then (sheet-numbers limit (draft_sheet d)) (λ b. numbered 9 (length (draft_sheet d)) (made.Row9 d room) (omega arith) (omega arith)))
 
 -- ---- the sheet of a text that passes is at most the longest
 pub draft-short : {text : List ℕ} {d : Draft} → Says text d → length d.variables ≤ most_variables → length (records_of d.goal 0) ≤ most_nodes → length (draft_sheet d) ≤ most_sheet_bytes
