@@ -93,7 +93,7 @@ words-none s = refl
 
 pub words_more : (s : List ℕ) (n : ℕ) → words_bytes s (n + 1) ≡ words_bytes s n + (length (word_at s n) + 1)
 unfolding words_bytes
-words_more s n = rw add-one
+words_more s n = rw (add-one n)
 
 module _ {s : List ℕ} where
   counts-below : (m n : ℕ) → n < m → AcceptedNode s n → length (phrase_at s n) + 1 + words_bytes s (start_at (table s) n) ≡ words_bytes s (n + 1)

@@ -1,5 +1,4 @@
 -- `printer::text_len` meets its contract: the lines of variables, and the words with what stands behind them. Assumes nothing.
-use Prim.Native.Nat.{◌+◌, ◌≤◌}
 use native.Mathlib.Omega.{arith}
 use Rattle.reading.proofs.RuleLaws.{accepted-counted}
 use Rattle.printer.proofs.LineLaws.{first_block, lines-short}
@@ -21,21 +20,15 @@ words_len-words-requires c = (c.requires, omega arith)
 
 pub overflow_add-result : goal.overflow_add-result
 overflow_add-result c =
-    let low : c.lines_len-lines.result + c.words_len-words.result ≤ 100000 = let k = accepted-counted _ c.requires in
-    omega (arith, lines-short _ c.requires c.variable_count.result (omega arith), words-short _ c.requires c.node_count.result (omega arith), k.few, k.most) in
-    omega (arith, low)
+    let k = accepted-counted _ c.requires in omega (arith, lines-short _ c.requires c.variable_count.result (omega arith), words-short _ c.requires c.node_count.result (omega arith), k.few, k.most)
 
 pub overflow_add-result-2 : goal.overflow_add-result-2
 overflow_add-result-2 c =
-    let low : c.lines_len-lines.result + c.words_len-words.result ≤ 100000 = let k = accepted-counted _ c.requires in
-    omega (arith, lines-short _ c.requires c.variable_count.result (omega arith), words-short _ c.requires c.node_count.result (omega arith), k.few, k.most) in
-    omega (arith, low)
+    let k = accepted-counted _ c.requires in omega (arith, lines-short _ c.requires c.variable_count.result (omega arith), words-short _ c.requires c.node_count.result (omega arith), k.few, k.most)
 
 pub overflow_add-result-3 : goal.overflow_add-result-3
 overflow_add-result-3 c =
-    let low : c.lines_len-lines.result + c.words_len-words.result ≤ 100000 = let k = accepted-counted _ c.requires in
-    omega (arith, lines-short _ c.requires c.variable_count.result (omega arith), words-short _ c.requires c.node_count.result (omega arith), k.few, k.most) in
-    omega (arith, low)
+    let k = accepted-counted _ c.requires in omega (arith, lines-short _ c.requires c.variable_count.result (omega arith), words-short _ c.requires c.node_count.result (omega arith), k.few, k.most)
 
 pub returns : goal.returns
 returns c =

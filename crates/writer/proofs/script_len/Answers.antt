@@ -1,14 +1,9 @@
 -- `writer::script_len` meets its contract: the parts of the script one by one. Assumes nothing.
-use Prim.Native.Nat.{◌+◌}
-use mathlib.Core.Path.{◌≡◌, ap}
+use mathlib.Core.Path.{ap}
 use native.Mathlib.Omega.{arith}
 use lib.ListN.{length}
-use Rattle.layout.specs.Parts.{rule_in}
 use Rattle.reading.proofs.RuleLaws.{accepted-counted}
-use Rattle.wording.specs.Form.{form_of}
-use Rattle.wording.specs.Script.{script}
 use Rattle.terms.specs.Texts.{text_at}
-use Rattle.writer.specs.Frame.{frame_bytes, models_bytes}
 use Rattle.writer.proofs.ScriptLaws.{first_block, goal-ready, script-length, script-short}
 use Rattle.writer.proofs.script_len.Goals as goal
 
@@ -23,27 +18,19 @@ variables_len-requires c = omega (arith, (accepted-counted _ c.requires).few)
 
 pub overflow_add-result : goal.overflow_add-result
 overflow_add-result c =
-    let whole : length (script (form_of c.args.form) (rule_in c.args.sheet.now))
-    ≡ c.variables_len.result + c.term_len-goal.result + frame_bytes + models_bytes c.args.form.models c.variable_count-count.result = omega (arith, script-length c.args.form.models _ c.requires c.variable_count-count.ensures c.variables_len.ensures, ap (λ n. length (text_at c.args.sheet.now n)) c.goal_node.ensures) in
-    omega (arith, whole, script-short c.args.form.models _ c.requires)
+    omega (arith, script-length c.args.form.models _ c.requires c.variable_count-count.ensures c.variables_len.ensures, ap (λ n. length (text_at c.args.sheet.now n)) c.goal_node.ensures, script-short c.args.form.models _ c.requires)
 
 pub overflow_add-result-2 : goal.overflow_add-result-2
 overflow_add-result-2 c =
-    let whole : length (script (form_of c.args.form) (rule_in c.args.sheet.now))
-    ≡ c.variables_len.result + c.term_len-goal.result + frame_bytes + models_bytes c.args.form.models c.variable_count-count.result = omega (arith, script-length c.args.form.models _ c.requires c.variable_count-count.ensures c.variables_len.ensures, ap (λ n. length (text_at c.args.sheet.now n)) c.goal_node.ensures) in
-    omega (arith, whole, script-short c.args.form.models _ c.requires)
+    omega (arith, script-length c.args.form.models _ c.requires c.variable_count-count.ensures c.variables_len.ensures, ap (λ n. length (text_at c.args.sheet.now n)) c.goal_node.ensures, script-short c.args.form.models _ c.requires)
 
 pub models_len-requires : goal.models_len-requires
 models_len-requires c = omega (arith, (accepted-counted _ c.requires).few)
 
 pub overflow_add-result-3 : goal.overflow_add-result-3
 overflow_add-result-3 c =
-    let whole : length (script (form_of c.args.form) (rule_in c.args.sheet.now))
-    ≡ c.variables_len.result + c.term_len-goal.result + frame_bytes + models_bytes c.args.form.models c.variable_count-count.result = omega (arith, script-length c.args.form.models _ c.requires c.variable_count-count.ensures c.variables_len.ensures, ap (λ n. length (text_at c.args.sheet.now n)) c.goal_node.ensures) in
-    omega (arith, whole, script-short c.args.form.models _ c.requires)
+    omega (arith, script-length c.args.form.models _ c.requires c.variable_count-count.ensures c.variables_len.ensures, ap (λ n. length (text_at c.args.sheet.now n)) c.goal_node.ensures, script-short c.args.form.models _ c.requires)
 
 pub returns : goal.returns
 returns c =
-    let whole : length (script (form_of c.args.form) (rule_in c.args.sheet.now))
-    ≡ c.variables_len.result + c.term_len-goal.result + frame_bytes + models_bytes c.args.form.models c.variable_count-count.result = omega (arith, script-length c.args.form.models _ c.requires c.variable_count-count.ensures c.variables_len.ensures, ap (λ n. length (text_at c.args.sheet.now n)) c.goal_node.ensures) in
-    omega (arith, whole)
+    omega (arith, script-length c.args.form.models _ c.requires c.variable_count-count.ensures c.variables_len.ensures, ap (λ n. length (text_at c.args.sheet.now n)) c.goal_node.ensures)
