@@ -14,7 +14,7 @@ use Rattle.lists.specs.First.{◌otherwise◌, first}
 use Rattle.lists.proofs.FirstLaws.{otherwise-some}
 use Rattle.refusals.specs.declared.Refusal.{Refusal}
 use Rattle.refusals.specs.Said.{unless}
-use Rattle.refusals.specs.Rows.{row, ◌then◌}
+use Rattle.refusals.specs.Rows.{row}
 use Rattle.refusals.proofs.SaidLaws.{unless-true}
 use Rattle.refusals.proofs.BoundLaws.{Bounded, bounded-row, bounded-then, bounded-each, bounded-answer}
 use Rattle.layout.specs.Limits.{block_bytes, most_nodes}
@@ -50,26 +50,26 @@ use Rattle.sources.proofs.PlaceLaws.{pointed-inside}
 Other : ℕ → ℕ → Type 0
 Other n p = n < 18
 
-other : {n : ℕ} (p : ℕ) (C : Type 0) → n < 18 → Bounded Other (row n p C)
+other : (n p : ℕ) (C : Type 0) → n < 18 → Bounded Other (row n p C)
 unfolding Other
-other {n} p C h = bounded-row n p C (λ c. h)
+other n p C h = bounded-row n p C (λ c. h)
 
 sheet-other : (limit : ℕ) (s : List ℕ) → Bounded Other (sheet_rows limit s)
 unfolding sheet_rows
 sheet-other limit s =
-    bounded-then (other 0 (Row1 limit s) (omega arith))
-    (λ a. bounded-then (bounded-each (length s / block_bytes) 0 (λ k i l. other k (Row2 s k) (omega arith)))
-    (λ b. bounded-then (other 0 (Row3 s) (omega arith))
-    (λ c. bounded-then (other 0 (Row4 limit s) (omega arith))
-    (λ d. bounded-then (bounded-each (variable_count s) 0 (λ k i l. other k (Row5 s k) (omega arith)))
-    (λ e. bounded-then (bounded-each (node_count s) 0 (λ k i l. bounded-then (other k (Row6 s k) (omega arith)) (λ x. bounded-then (other k (Row7 s k) (omega arith)) (λ y. other k (Row8 s k) (omega arith)))))
-    (λ f. bounded-then (other _ (GoalSubtree s) (omega arith))
-    (λ g. other _ (GoalType s) (omega arith))))))))
+    bounded-then (other 1 0 (Row1 limit s) (omega arith))
+    (λ a. bounded-then (bounded-each (length s / block_bytes) 0 (λ k i l. other 2 k (Row2 s k) (omega arith)))
+    (λ b. bounded-then (other 3 0 (Row3 s) (omega arith))
+    (λ c. bounded-then (other 4 0 (Row4 limit s) (omega arith))
+    (λ d. bounded-then (bounded-each (variable_count s) 0 (λ k i l. other 5 k (Row5 s k) (omega arith)))
+    (λ e. bounded-then (bounded-each (node_count s) 0 (λ k i l. bounded-then (other 6 k (Row6 s k) (omega arith)) (λ x. bounded-then (other 7 k (Row7 s k) (omega arith)) (λ y. other 8 k (Row8 s k) (omega arith)))))
+    (λ f. bounded-then (other 6 _ (GoalSubtree s) (omega arith))
+    (λ g. other 7 _ (GoalType s) (omega arith))))))))
 
 draft-other : (limit : ℕ) (d : Draft) (room : ℕ) {r : Refusal} → draft_refusal limit d room ≡ some r → r.number ≡ 18 → ⊥
 unfolding Other
 draft-other limit d room e n =
-    let rows : Bounded Other (draft_rows limit d room) = bounded-then (other 0 (Row4d limit d) (omega arith)) (λ a. bounded-then (sheet-other limit (draft_sheet d)) (λ b. other _ (Row9 d room) (omega arith))) in
+    let rows : Bounded Other (draft_rows limit d room) = bounded-then (other 4 0 (Row4d limit d) (omega arith)) (λ a. bounded-then (sheet-other limit (draft_sheet d)) (λ b. other 9 _ (Row9 d room) (omega arith))) in
     omega (arith, bounded-answer rows (draft-exactly limit d room) e)
 
 -- ---- what `make` tells about the text

@@ -68,8 +68,8 @@ fn refused_line(text: &[u8], refusal: Refusal, line: &mut [u8]) -> usize
 pub fn sheet_of(text: &[u8], sheet: &mut [u8], line: &mut [u8]) -> Source
     requires { longest_pointed ≤ length line.old }
     ensures sourced { Sourced most_nodes text.now sheet.old line.old result sheet.new line.new }
-    ensures prefix_len { IsPrefixLen result.sheet sheet.new }
-    ensures prefix_len_2 { IsPrefixLen result.line line.new }
+    ensures sheet_prefix { IsPrefixLen result.sheet sheet.new }
+    ensures line_prefix { IsPrefixLen result.line line.new }
 {
     match maker::make(text, sheet) {
         Written::Done(size) => Source {
