@@ -621,14 +621,13 @@ fn rows(cases: &[Case], judged: &[Judged], section: usize) -> [Vec<String>; 3] {
     out
 }
 
-/// A data file's first lines.
-fn opening(about: &str) -> String {
+/// A data file's first lines; the last word is what it imports of truth values.
+fn opening(about: &str, truths: &str) -> String {
     format!(
         "-- {about} ({}). Written by tests/smtlib/vectors.rs from tests/smtlib/scripts.txt.
 use Prim.Native.Nat.{{ℕ}}
 use Prim.Native.String.{{String}}
-use mathlib.Core.Bool.{{Bool, true, false}}
-use mathlib.Core.List.{{List, [], ◌∷◌}}
+{truths}use mathlib.Core.List.{{List, [], ◌∷◌}}
 ",
         calls()
     )
@@ -647,7 +646,10 @@ fn script_data(cases: &[Case], judged: &[Judged]) -> String {
 {}
 -- refused
 {}",
-        opening("Scripts of which z3 and cvc5 say the same"),
+        opening(
+            "Scripts of which z3 and cvc5 say the same",
+            "use mathlib.Core.Bool.{Bool, true, false}\n"
+        ),
         listed("satisfied", SETTINGS, &all),
         listed("tried", "String × List (List ℕ × Bool)", &some),
         listed("refused", "String", &refused)
@@ -677,7 +679,7 @@ fn decision_data(cases: &[Case], judged: &[Judged]) -> String {
 {}
 -- cvc5 accepts these, as SMT-LIB does, and z3 refuses them or leaves a question unanswered; with every setting that cvc5 finds to satisfy them
 {}",
-        opening("Scripts of which z3, cvc5, SMT-LIB and the reading of crates/smtlib don't say the same"),
+        opening("Scripts of which z3, cvc5, SMT-LIB and the reading of crates/smtlib don't say the same", ""),
         list("by_z3", 2),
         list("by_cvc5", 3),
         list("against_standard", 4),
