@@ -54,6 +54,7 @@ pub fn read_nodes(sheet: &[u8]) -> Result<(), Refused>
                 place: i,
             });
         }
+        // No `map_err` and `?`: the closure would take the place from the loop, and the proofs of both exits get longer for it.
         let finding = match findings::node_step(sheet, r, &findings) {
             Ok(finding) => finding,
             Err(cause) => return Err(Refused { cause, place: i }),

@@ -4,4 +4,3 @@ use Rattle.nodes.proofs.read_nodes.Given as goal
 
 abbrev pub invariant-loop-i : goal.invariant-loop-i
 invariant-loop-i l = Going l.sheet l.n l.v l.starts l.findings l.i
-
