@@ -202,7 +202,7 @@ pub fn domain(sheet: &[u8], n: VariableNumber) -> Range
 }
 
 // Where a node's record stands.
-fn node_place(n: NodeNumber) -> usize
+pub fn node_place(n: NodeNumber) -> usize
     ensures { result ≡ node_place n.0 }
 {
     let i = n.0 as usize;

@@ -5,6 +5,3 @@ use Rattle.sheets.proofs.content_check.Goals as goal
 
 pub overflow_cast-result : goal.overflow_cast-result
 overflow_cast-result c = record { fits = rw c.check_of.ensures (check-narrow _ _) }
-
-pub returns : goal.returns
-returns c = rw (c.check_of.ensures, add-sub_cancel_left)
