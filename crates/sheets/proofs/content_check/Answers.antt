@@ -1,5 +1,4 @@
 -- `content_check` meets its contract: what `check_of` ensures of the lent content, which two bytes have room for. Assumes nothing.
-use native.Mathlib.Nat.{add-sub_cancel_left}
 use Rattle.sheets.proofs.PutLaws.{check-narrow}
 use Rattle.sheets.proofs.content_check.Goals as goal
 

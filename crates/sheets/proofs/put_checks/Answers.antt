@@ -1,6 +1,5 @@
 -- `sheets::put_checks` meets its contract: after k turns the checks of the blocks below k are put. Assumes nothing.
-use borrow.Author.Rules.{rules}
-use Rattle.sheets.proofs.PutLaws.{checks-none, checks-turn, checks-all}
+use Rattle.sheets.proofs.PutLaws.{checks-none, checks-turn}
 use Rattle.sheets.proofs.put_checks.Goals as goal
 
 pub loop-k-init : goal.loop-k-init
