@@ -9,6 +9,12 @@ use native.Mathlib.Omega.{arith}
 use borrow.Author.Tests.{not-true}
 use lib.IntN.{ℤ}
 use lib.ListN.{length}
+use Rattle.refusals.specs.Rows.{Exactly}
+use Rattle.trial.specs.Rows.{reply_rows}
+use Rattle.std.specs.Prelude.{Result, Ok, Err}
+use Rattle.refusals.specs.declared.Cause.TheVariants.{Reply as Reply-cause}
+use Rattle.refusals.specs.declared.Refused.{Refused}
+use Rattle.refusals.specs.Causes.{refusal_of as told_as}
 use Rattle.lists.proofs.FirstLaws.{neither, otherwise-none, first-none, none_first}
 use Rattle.refusals.specs.declared.Refusal.{Refusal}
 use Rattle.refusals.proofs.SaidLaws.{unless-none, unless-true}
@@ -31,7 +37,7 @@ use Rattle.replies.proofs.SaysLaws.{reply-says}
 use Rattle.replies.proofs.SatLaws.{not-both}
 use Rattle.digits.proofs.NumberLaws.{case-long}
 use Rattle.trial.specs.declared.Replied.{Replied}
-use Rattle.trial.specs.declared.Replied.TheVariants.{Unsat, Fails, Refused}
+use Rattle.trial.specs.declared.Replied.TheVariants.{Unsat, Fails}
 use Rattle.trial.specs.Replies.{replied_said, Replies}
 use Rattle.trial.specs.Trying.{value_refusal, values_refusal, case_refusal}
 use Rattle.trial.proofs.RowLaws.{decides-in, refused-sheet, refused-11, claimed, spelled-case}
@@ -57,24 +63,24 @@ module _ (s : List ℕ) (c : List ℤ) where
 
 -- ---- the answer
 module _ (s reply : List ℕ) where
-  pub replies-sheet : {r : Refusal} → refusal_of most_nodes s ≡ some r → Replies most_nodes s reply (Refused r)
+  pub replies-sheet : {e : Refused} → refusal_of most_nodes s ≡ some (told_as e) → Replies most_nodes s reply (Err e)
   replies-sheet e = record { refusals = refused-sheet s reply e; told = tt }
 
   module _ (e : refusal_of most_nodes s ≡ none) where
-    pub replies-11 : {p : ℕ} → Leaves (Reply (variable_count s)) reply p → Replies most_nodes s reply (Refused (record { number = 11; place = p }))
+    pub replies-11 : {p : ℕ} → Leaves (Reply (variable_count s)) reply p → Replies most_nodes s reply (Err (record { cause = Reply-cause; place = p }))
     replies-11 h = record { refusals = refused-11 s reply e h; told = tt }
 
-    pub replies-unsat : Claims reply → Replies most_nodes s reply Unsat
+    pub replies-unsat : Claims reply → Replies most_nodes s reply (Ok Unsat)
     replies-unsat f = record { refusals = claimed s reply e f; told = f }
 
     module _ {c : List ℤ} (x : SpellsCase (variable_count s) reply c) where
-      pub replies-case : {r : Refusal} → case_refusal s c ≡ some r → Replies most_nodes s reply (Refused r)
+      pub replies-case : {e : Refused} → case_refusal s c ≡ some (told_as e) → Replies most_nodes s reply (Err e)
       replies-case d = record { refusals = rw d at (spelled-case s reply e x); told = tt }
 
-      pub replies-fails : case_refusal s c ≡ none → Replies most_nodes s reply Fails
+      pub replies-fails : case_refusal s c ≡ none → Replies most_nodes s reply (Ok Fails)
       replies-fails d = record { refusals = rw d at (spelled-case s reply e x); told = (c, x, silent-failing s c (case-long x) d) }
 
-      pub replies-failing : Failing (rule_in s) c → Replies most_nodes s reply Fails
+      pub replies-failing : Failing (rule_in s) c → Replies most_nodes s reply (Ok Fails)
       replies-failing f = replies-fails (failing-silent s c f)
 
 -- ---- and there is one
@@ -86,32 +92,33 @@ fits-or-leaves v s = go (stops (reply_for v) 0 s) refl
     go (some p) e = inr (p, (stops-exactly derive may_end pattern-reads (definite-for v) s p).0 e)
 
 module _ (s reply : List ℕ) where
+  -- a failing case, or none: unsat, or a row of the table
   Answer : Type 0
-  Answer = (r : Replied) × Replies most_nodes s reply r
+  Answer = Replies most_nodes s reply (Ok Fails) ⊎ (Claims reply ⊎ ((r : Refusal) × Exactly (reply_rows most_nodes s reply) (some r)))
 
   of-case : refusal_of most_nodes s ≡ none → {c : List ℤ} → SpellsCase (variable_count s) reply c → Answer
   unfolding Answer
   of-case e {c} x = go (case_refusal s c) refl
     where
-      go : (o : Option Refusal) → case_refusal s c ≡ o → (r : Replied) × Replies most_nodes s reply r
-      go none d = (Fails, replies-fails s reply e x d)
-      go (some r) d = (Refused r, replies-case s reply e x d)
+      go : (o : Option Refusal) → case_refusal s c ≡ o → Answer
+      go none d = inl (replies-fails s reply e x d)
+      go (some r) d = inr (inr (r, rw d at (spelled-case s reply e x)))
 
   of-says : refusal_of most_nodes s ≡ none → Says (variable_count s) reply → Answer
   unfolding Answer
-  of-says e (unsat f) = (Unsat, replies-unsat s reply e f)
+  of-says e (unsat f) = inr (inl f)
   of-says e (sat t x) = of-case e (record { setting = t; spelled = x; case = refl })
 
   answered : Answer
   unfolding Answer
   answered = go (refusal_of most_nodes s) refl
     where
-      go : (o : Option Refusal) → refusal_of most_nodes s ≡ o → (r : Replied) × Replies most_nodes s reply r
-      go none e = ⊎_elim (λ h. of-says e (reply-says (variable_count s) reply h)) (λ w. (Refused (record { number = 11; place = w.0 }), replies-11 s reply e w.1)) (fits-or-leaves (variable_count s) reply)
-      go (some r) e = (Refused r, replies-sheet s reply e)
+      go : (o : Option Refusal) → refusal_of most_nodes s ≡ o → Answer
+      go none e = ⊎_elim (λ h. of-says e (reply-says (variable_count s) reply h)) (λ w. inr (inr (record { number = 11; place = w.0 }, refused-11 s reply e w.1))) (fits-or-leaves (variable_count s) reply)
+      go (some r) e = inr (inr (r, refused-sheet s reply e))
 
 -- an answer that is no refusal is to an accepted sheet
-pub silent-accepted : (s reply : List ℕ) → {r : Replied} → Replies most_nodes s reply r → replied_said r ≡ none → refusal_of most_nodes s ≡ none
+pub silent-accepted : (s reply : List ℕ) → {r : Result Replied Refused} → Replies most_nodes s reply r → replied_said r ≡ none → refusal_of most_nodes s ≡ none
 silent-accepted s reply {r} h e = go (refusal_of most_nodes s) refl
   where
     go : (o : Option Refusal) → refusal_of most_nodes s ≡ o → refusal_of most_nodes s ≡ none
@@ -119,11 +126,6 @@ silent-accepted s reply {r} h e = go (refusal_of most_nodes s) refl
     go (some q) d = absurd (let z : ◌≡◌ {A = ℕ} 0 1 = cc (exactly-once _ _ (refused-sheet s reply d) h.refusals, e) in omega arith)
 
 -- so a failing case is spelled or not
-pub fails-decided : (s reply : List ℕ) → Dec (Replies most_nodes s reply Fails)
+pub fails-decided : (s reply : List ℕ) → Dec (Replies most_nodes s reply (Ok Fails))
 unfolding Answer
-fails-decided s reply = let w = answered s reply in go w.0 w.1
-  where
-    go : (r : Replied) → Replies most_nodes s reply r → Dec (Replies most_nodes s reply Fails)
-    go Unsat h = no (λ g. not-both h.told g.told.1.spelled)
-    go Fails h = yes h
-    go (Refused r) h = no (λ g. let z : ◌≡◌ {A = ℕ} 0 1 = cc (exactly-once _ _ h.refusals g.refusals) in omega arith)
+fails-decided s reply = ⊎_elim (λ h. yes h) (λ w. no (λ g. ⊎_elim (λ f. not-both f g.told.1.spelled) (λ r. let z : ◌≡◌ {A = ℕ} 0 1 = cc (exactly-once _ _ r.1 g.refusals) in omega arith) w)) (answered s reply)

@@ -7,6 +7,9 @@ use mathlib.Core.Option.{none}
 use denote.Ref.{Bor}
 use lib.IntN.{ℤ}
 use lib.ListN.{length, take, drop}
+use Rattle.std.specs.Prelude.{Result, Ok, Err}
+use Rattle.refusals.specs.declared.Refused.{Refused}
+use Rattle.refusals.specs.Causes.{refusal_of as told_as}
 use Rattle.lists.proofs.PartLaws.{empty-where}
 use Rattle.numbers.specs.Bytes.{Bytes}
 use Rattle.numbers.specs.Two.{dec}
@@ -32,7 +35,7 @@ use Rattle.trial.proofs.GivenLaws.{given_inside}
 
 module _ (s reply : List ℕ) where
   -- of an accepted sheet
-  pub accepted-spells : refusal_of most_nodes s ≡ none → Replies most_nodes s reply Fails ↔ ((c : List ℤ) × Failing (rule_in s) c × SpellsCase (variable_count s) reply c)
+  pub accepted-spells : refusal_of most_nodes s ≡ none → Replies most_nodes s reply (Ok Fails) ↔ ((c : List ℤ) × Failing (rule_in s) c × SpellsCase (variable_count s) reply c)
   accepted-spells e = (λ h. (h.told.0, h.told.2, h.told.1), λ w. replies-failing s reply e w.2 w.1)
 
   -- a variable's digits, read as a number in two's complement, are its value
@@ -45,7 +48,7 @@ pub digits-empty : {s : List ℕ} {reply part : Bor (List ℕ)} {i : ℕ} → Di
 digits-empty {s} {reply} {part} {i} p = empty-where (given_inside s reply.now i) p
 
 -- each failing case of an accepted sheet is spelled by some reply, which is accepted
-pub failing-spelled : (s : List ℕ) → Bytes s → refusal_of most_nodes s ≡ none → (c : List ℤ) → Failing (rule_in s) c → (reply : List ℕ) × SpellsCase (variable_count s) reply c × Replies most_nodes s reply Fails
+pub failing-spelled : (s : List ℕ) → Bytes s → refusal_of most_nodes s ≡ none → (c : List ℤ) → Failing (rule_in s) c → (reply : List ℕ) × SpellsCase (variable_count s) reply c × Replies most_nodes s reply (Ok Fails)
 failing-spelled s b e c f =
     let w = spells-case c (λ i l. narrow_within (case-narrow s b f.0 i)) in
     let x : SpellsCase (variable_count s) w.0 c = subst (λ (n : ℕ). SpellsCase n w.0 c) (f.0.all ∙ variable-total s) w.1 in

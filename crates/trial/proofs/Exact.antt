@@ -4,6 +4,9 @@ use mathlib.Core.Path.{refl}
 use mathlib.Core.List.{List}
 use native.Mathlib.Omega.{arith}
 use lib.ListN.{length}
+use Rattle.std.specs.Prelude.{Result, Ok, Err}
+use Rattle.refusals.specs.declared.Refused.{Refused}
+use Rattle.refusals.specs.Causes.{refusal_of as told_as}
 use Rattle.layout.specs.Limits.{most_nodes}
 use Rattle.layout.specs.Parts.{variable_count}
 use Rattle.refusals.specs.declared.Refusal.{Refusal}
@@ -11,7 +14,6 @@ use Rattle.refusals.proofs.BoundLaws.{Bounded, bounded-row, bounded-then, bounde
 use Rattle.reading.proofs.Exact.{sheet-exactly}
 use Rattle.reading.proofs.Bounds.{sheet-small}
 use Rattle.reading.proofs.RuleLaws.{accepted-inside}
-use Rattle.trial.specs.declared.Replied.TheVariants.{Refused}
 use Rattle.trial.specs.Rows.{Row11, Row12, Row13, reply_rows}
 use Rattle.trial.specs.Replies.{Replies}
 
@@ -28,5 +30,5 @@ module _ (s reply : List ℕ) where
       (λ b. bounded-then (bounded-each (variable_count s) 0 (λ k i l. bounded-row 12 k (Row12 s reply k) (λ h. record { some_number = omega arith; low-place = omega (arith, (accepted-inside s ((sheet-exactly most_nodes s).passed.1 a)).1) })))
       (λ c. bounded-row 13 0 (Row13 s reply) (λ h. record { some_number = omega arith; low-place = omega arith }))))
 
-pub reply-near : {s reply : List ℕ} {r : Refusal} → Replies most_nodes s reply (Refused r) → Near (length reply) r.number r.place
+pub reply-near : {s reply : List ℕ} {e : Refused} → Replies most_nodes s reply (Err e) → Near (length reply) (told_as e).number (told_as e).place
 reply-near {s} {reply} h = bounded-answer (rows-near s reply) h.refusals refl

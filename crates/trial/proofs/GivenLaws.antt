@@ -9,6 +9,9 @@ use native.Mathlib.Omega.{arith}
 use denote.Ref.{Bor}
 use lib.Dec.{eqb}
 use lib.ListN.{length, get_or}
+use Rattle.std.specs.Prelude.{Result, Ok, Err}
+use Rattle.refusals.specs.declared.Refused.{Refused}
+use Rattle.refusals.specs.Causes.{refusal_of as told_as}
 use Rattle.lists.specs.Part.{PartAt}
 use Rattle.layout.specs.Parts.{variable_count}
 use Rattle.reading.specs.Cascade.{refusal_of}
@@ -19,7 +22,7 @@ use Rattle.digits.specs.Ready.{Based}
 use Rattle.digits.proofs.DigitLaws.{setting-based}
 use Rattle.refusals.specs.declared.Refusal.{Refusal}
 use Rattle.trial.specs.declared.Replied.{Replied}
-use Rattle.trial.specs.declared.Replied.TheVariants.{Unsat, Fails, Refused}
+use Rattle.trial.specs.declared.Replied.TheVariants.{Unsat, Fails}
 use Rattle.trial.specs.Replies.{Replies}
 use Rattle.trial.specs.Digits.{DigitsGiven, DigitsPart, DigitsSpan}
 use Rattle.refusals.proofs.RowLaws.{exactly-once}
@@ -27,14 +30,14 @@ use Rattle.layout.specs.Limits.{most_nodes}
 use Rattle.trial.proofs.Answers.{silent-accepted, fails-decided}
 
 module _ (s reply : List ℕ) where
-  pub fails-accepted : Replies most_nodes s reply Fails → refusal_of most_nodes s ≡ none
+  pub fails-accepted : Replies most_nodes s reply (Ok Fails) → refusal_of most_nodes s ≡ none
   fails-accepted h = silent-accepted s reply h refl
 
   module _ (i : ℕ) where
     pub given-decided : Dec (DigitsGiven most_nodes s reply i)
     given-decided = go (fails-decided s reply) (dec_lt i (variable_count s))
       where
-        go : Dec (Replies most_nodes s reply Fails) → Dec (i < variable_count s) → Dec (DigitsGiven most_nodes s reply i)
+        go : Dec (Replies most_nodes s reply (Ok Fails)) → Dec (i < variable_count s) → Dec (DigitsGiven most_nodes s reply i)
         go (yes h) (yes l) = yes (h, l)
         go (yes h) (no n) = no (λ g. n g.1)
         go (no n) d = no (λ g. n g.0)
@@ -68,11 +71,11 @@ module _ (s reply : List ℕ) where
         go (no n) = let w = h.absent n in omega arith
 
   -- what is no failing case gives nothing
-  module _ {r : Replied} (h : Replies most_nodes s reply r) {i : ℕ} where
-    pub unsat-none : r ≡ Unsat → DigitsGiven most_nodes s reply i → ⊥
+  module _ {r : Result Replied Refused} (h : Replies most_nodes s reply r) {i : ℕ} where
+    pub unsat-none : r ≡ Ok Unsat → DigitsGiven most_nodes s reply i → ⊥
     unsat-none e g = not-both (rw e at h.told) g.0.told.1.spelled
 
-    pub refused_none : {q : Refusal} → r ≡ Refused q → DigitsGiven most_nodes s reply i → ⊥
+    pub refused_none : {q : Refused} → r ≡ Err q → DigitsGiven most_nodes s reply i → ⊥
     refused_none e g = let z : ◌≡◌ {A = ℕ} 0 1 = cc (exactly-once _ _ (rw e at h.refusals) g.0.refusals) in omega arith
 
 -- the part by its span

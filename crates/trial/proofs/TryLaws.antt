@@ -8,13 +8,16 @@ use native.Mathlib.Omega.{arith}
 use lib.IntN.{ℤ, pos}
 use lib.ListN.{length, get_or, take, drop, replicate, length-take}
 use lib.Seq.{get_or-take, length-take-le}
+use Rattle.std.specs.Prelude.{Result, Ok, Err}
+use Rattle.refusals.specs.declared.Cause.TheVariants.{Reply as Reply-cause}
+use Rattle.refusals.specs.declared.Refused.{Refused}
+use Rattle.trial.specs.declared.Replied.{Replied}
+use Rattle.refusals.specs.Causes.{refusal_of as told_as}
 use Rattle.lists.proofs.FirstLaws.{otherwise-none, otherwise-some}
 use Rattle.numbers.specs.declared.Range.{Range}
 use Rattle.numbers.specs.Ranges.{Narrow}
 use Rattle.numbers.proofs.Bytes16.{dec16-narrow}
 use Rattle.refusals.specs.declared.Refusal.{Refusal}
-use Rattle.refusals.specs.declared.Reading.{Reading}
-use Rattle.refusals.specs.declared.Reading.TheVariants.{Accepted, Refused}
 use Rattle.refusals.specs.Said.{said_of}
 use Rattle.refusals.proofs.SaidLaws.{unless-true, unless-false}
 use Rattle.meaning.specs.Rule.{domain_of, value_in}
@@ -30,14 +33,12 @@ use Rattle.cases.specs.Ready.{CaseFits}
 use Rattle.grammar.specs.Begins.{Leaves}
 use Rattle.replies.specs.Replies.{Reply}
 use Rattle.replies.specs.Says.{Claims, SpellsCase}
-use Rattle.replies.specs.declared.Reached.{Reached}
-use Rattle.replies.specs.declared.Reached.TheVariants.{Whole, Stopped}
 use Rattle.replies.specs.Answers.{Answers, sat_first}
 use Rattle.replies.proofs.SatLaws.{sat-exactly, unsat-exactly}
 use Rattle.digits.specs.Ready.{Numbered}
 use Rattle.digits.proofs.DigitLaws.{setting-based, digits_number}
 use Rattle.digits.proofs.NumberLaws.{case-long}
-use Rattle.trial.specs.declared.Replied.TheVariants.{Unsat, Fails, Refused as refused}
+use Rattle.trial.specs.declared.Replied.TheVariants.{Unsat, Fails}
 use Rattle.trial.specs.Replies.{RepliesInto}
 use Rattle.trial.specs.Trying.{is_in, values_refusal, case_refusal, NumbersReady, CaseReady}
 use Rattle.trial.proofs.Answers.{values-case, replies-sheet, replies-11, replies-unsat, replies-case, replies-fails}
@@ -51,26 +52,23 @@ module _ (s : List ℕ) where
   pub standing : {numbers : List ℤ} → NumbersReady s numbers → values_refusal s (take (variable_count s) numbers) ≡ none → Standing s numbers
   standing {numbers} w e = record { accepted = w.accepted; present = values-case s _ (length-take-le (variable_count s) numbers w.present) e; zeros = w.zeros }
 
-  module _ (c : List ℤ) {a : Reading} (e : said_of a ≡ values_refusal s c) where
-    pub by_values : {r : Refusal} → a ≡ Refused r → said_of a ≡ case_refusal s c
-    by_values d = ap said_of d ∙ sym (otherwise-some _ (sym e ∙ ap said_of d))
+  module _ (c : List ℤ) where
+    pub by_values : {r : Refusal} → some r ≡ values_refusal s c → some r ≡ case_refusal s c
+    by_values d = sym (otherwise-some _ (sym d))
 
-    module _ (d : a ≡ Accepted) where
-      pub values-passed : values_refusal s c ≡ none
-      values-passed = sym e ∙ ap said_of d
-
+    module _ (d : none ≡ values_refusal s c) where
       pub by-holding : {b : Bool} → b ≡ holds (rule_in s) c → b ≡ true → some (record { number = 13; place = 0 }) ≡ case_refusal s c
-      by-holding h t = sym (otherwise-none _ values-passed ∙ unless-false {b = not (holds (rule_in s) c)} 13 0 (rw (sym h ∙ t)))
+      by-holding h t = sym (otherwise-none _ (sym d) ∙ unless-false {b = not (holds (rule_in s) c)} 13 0 (rw (sym h ∙ t)))
 
       pub by-failing : {b : Bool} → b ≡ holds (rule_in s) c → b ≡ false → none ≡ case_refusal s c
-      by-failing h t = sym (otherwise-none _ values-passed ∙ unless-true {b = not (holds (rule_in s) c)} 13 0 (rw (sym h ∙ t)))
+      by-failing h t = sym (otherwise-none _ (sym d) ∙ unless-true {b = not (holds (rule_in s) c)} 13 0 (rw (sym h ∙ t)))
 
 -- ---- how far a reply fits
-module _ (s reply : List ℕ) {v : ℕ} (ev : v ≡ variable_count s) {r : Reached} (h : Answers v reply r) where
-  pub reached-whole : r ≡ Whole → Reply (variable_count s) reply
+module _ (s reply : List ℕ) {v : ℕ} (ev : v ≡ variable_count s) {r : Result Unit ℕ} (h : Answers v reply r) where
+  pub reached-whole : r ≡ Ok tt → Reply (variable_count s) reply
   reached-whole e = rw ev at (subst (Answers v reply) e h)
 
-  pub reached-off : {p : ℕ} → r ≡ Stopped p → Leaves (Reply (variable_count s)) reply p
+  pub reached-off : {p : ℕ} → r ≡ Err p → Leaves (Reply (variable_count s)) reply p
   reached-off e = rw ev at (subst (Answers v reply) e h)
 
 -- ---- what a reply that fits says
@@ -104,19 +102,19 @@ module _ (s : List ℕ) (e : refusal_of most_nodes s ≡ none) {reply : List ℕ
 
 -- ---- the answer, and the room
 module _ (s reply : List ℕ) (room : List ℤ) where
-  pub into-sheet : {a : Reading} {r : Refusal} → said_of a ≡ refusal_of most_nodes s → a ≡ Refused r → RepliesInto most_nodes s reply room (refused r) room
-  into-sheet e d = record { answer = replies-sheet s reply (sym e ∙ ap said_of d); room = refl }
+  pub into-sheet : {a : Result Replied Refused} {e : Refused} → a ≡ Err e → some (told_as e) ≡ refusal_of most_nodes s → RepliesInto most_nodes s reply room a room
+  into-sheet p d = rw p (record { answer = replies-sheet s reply (sym d); room = refl })
 
   module _ (e : refusal_of most_nodes s ≡ none) where
-    pub into-11 : {p : ℕ} → Leaves (Reply (variable_count s)) reply p → RepliesInto most_nodes s reply room (refused (record { number = 11; place = p })) room
+    pub into-11 : {p : ℕ} → Leaves (Reply (variable_count s)) reply p → RepliesInto most_nodes s reply room (Err (record { cause = Reply-cause; place = p })) room
     into-11 h = record { answer = replies-11 s reply e h; room = refl }
 
-    pub into-unsat : Claims reply → RepliesInto most_nodes s reply room Unsat room
+    pub into-unsat : Claims reply → RepliesInto most_nodes s reply room (Ok Unsat) room
     into-unsat f = record { answer = replies-unsat s reply e f; room = refl }
 
-    module _ {c : List ℤ} (x : SpellsCase (variable_count s) reply c) {a : Reading} (d : said_of a ≡ case_refusal s c) where
-      pub into-case : {r : Refusal} → a ≡ Refused r → RepliesInto most_nodes s reply room (refused r) room
-      into-case h = record { answer = replies-case s reply e x (sym d ∙ ap said_of h); room = refl }
+    module _ {c : List ℤ} (x : SpellsCase (variable_count s) reply c) where
+      pub into-case : {a : Result Replied Refused} {e : Refused} → a ≡ Err e → some (told_as e) ≡ case_refusal s c → RepliesInto most_nodes s reply room a room
+      into-case p d = rw p (record { answer = replies-case s reply e x (sym d); room = refl })
 
-      pub into-fails : a ≡ Accepted → {after : List ℤ} → after ≡ c ++ drop (variable_count s) room → RepliesInto most_nodes s reply room Fails after
-      into-fails h g = record { answer = replies-fails s reply e x (sym d ∙ ap said_of h); room = (c, x, g) }
+      pub into-fails : none ≡ case_refusal s c → {after : List ℤ} → after ≡ c ++ drop (variable_count s) room → RepliesInto most_nodes s reply room (Ok Fails) after
+      into-fails d g = record { answer = replies-fails s reply e x (sym d); room = (c, x, g) }

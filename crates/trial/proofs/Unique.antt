@@ -6,42 +6,46 @@ use native.Mathlib.Omega.{arith}
 use denote.Ref.{Bor}
 use lib.IntN.{ℤ}
 use lib.ListN.{drop}
+use Rattle.std.specs.Prelude.{Result, Ok, Err}
+use Rattle.refusals.specs.declared.Refused.{Refused}
+use Rattle.refusals.proofs.SaidLaws.{same-refused}
+use Rattle.refusals.specs.Causes.{refusal_of as told_as}
 use Rattle.lists.specs.Part.{SamePart}
 use Rattle.lists.proofs.PartLaws.{where-once}
 use Rattle.layout.specs.Parts.{variable_count}
 use Rattle.replies.proofs.SatLaws.{not-both}
 use Rattle.replies.proofs.Unique.{one-case}
 use Rattle.trial.specs.declared.Replied.{Replied}
-use Rattle.trial.specs.declared.Replied.TheVariants.{Unsat, Fails, Refused}
+use Rattle.trial.specs.declared.Replied.TheVariants.{Unsat, Fails}
 use Rattle.trial.specs.Replies.{replied_said, Replies, CaseRoom, RepliesInto}
 use Rattle.trial.specs.Digits.{DigitsGiven, DigitsPart, DigitsSpan}
 use Rattle.refusals.proofs.RowLaws.{exactly-once}
 use Rattle.layout.specs.Limits.{most_nodes}
 use Rattle.trial.proofs.GivenLaws.{given-decided}
 
-pub reply-once : {s reply : List ℕ} {r t : Replied} → Replies most_nodes s reply r → Replies most_nodes s reply t → r ≡ t
+pub reply-once : {s reply : List ℕ} {r t : Result Replied Refused} → Replies most_nodes s reply r → Replies most_nodes s reply t → r ≡ t
 reply-once {s} {reply} {r} {t} h g = go r t h g (exactly-once (replied_said r) (replied_said t) h.refusals g.refusals)
   where
-    go : (r t : Replied) → Replies most_nodes s reply r → Replies most_nodes s reply t → replied_said r ≡ replied_said t → r ≡ t
-    go Unsat Unsat h g e = refl
-    go Unsat Fails h g e = absurd (not-both h.told g.told.1.spelled)
-    go Unsat (Refused q) h g e = absurd (let z : ◌≡◌ {A = ℕ} 0 1 = cc in omega arith)
-    go Fails Unsat h g e = absurd (not-both g.told h.told.1.spelled)
-    go Fails Fails h g e = refl
-    go Fails (Refused q) h g e = absurd (let z : ◌≡◌ {A = ℕ} 0 1 = cc in omega arith)
-    go (Refused p) Unsat h g e = absurd (let z : ◌≡◌ {A = ℕ} 0 1 = cc in omega arith)
-    go (Refused p) Fails h g e = absurd (let z : ◌≡◌ {A = ℕ} 0 1 = cc in omega arith)
-    go (Refused p) (Refused q) h g e = let d : p ≡ q = cc in ap Refused d
+    go : (r t : Result Replied Refused) → Replies most_nodes s reply r → Replies most_nodes s reply t → replied_said r ≡ replied_said t → r ≡ t
+    go (Ok Unsat) (Ok Unsat) h g e = refl
+    go (Ok Unsat) (Ok Fails) h g e = absurd (not-both h.told g.told.1.spelled)
+    go (Ok Unsat) (Err q) h g e = absurd (let z : ◌≡◌ {A = ℕ} 0 1 = cc in omega arith)
+    go (Ok Fails) (Ok Unsat) h g e = absurd (not-both g.told h.told.1.spelled)
+    go (Ok Fails) (Ok Fails) h g e = refl
+    go (Ok Fails) (Err q) h g e = absurd (let z : ◌≡◌ {A = ℕ} 0 1 = cc in omega arith)
+    go (Err p) (Ok Unsat) h g e = absurd (let z : ◌≡◌ {A = ℕ} 0 1 = cc in omega arith)
+    go (Err p) (Ok Fails) h g e = absurd (let z : ◌≡◌ {A = ℕ} 0 1 = cc in omega arith)
+    go (Err p) (Err q) h g e = ap Err (same-refused p q cc)
 
-room-once : (s reply : List ℕ) (before x y : List ℤ) (r : Replied) → CaseRoom s reply before r x → CaseRoom s reply before r y → x ≡ y
-room-once s reply before x y Unsat h g = h ∙ sym g
-room-once s reply before x y Fails h g = h.2 ∙ ap (λ (c : List ℤ). c ++ drop (variable_count s) before) (one-case h.1 g.1) ∙ sym g.2
-room-once s reply before x y (Refused q) h g = h ∙ sym g
+room-once : (s reply : List ℕ) (before x y : List ℤ) (r : Result Replied Refused) → CaseRoom s reply before r x → CaseRoom s reply before r y → x ≡ y
+room-once s reply before x y (Ok Unsat) h g = h ∙ sym g
+room-once s reply before x y (Ok Fails) h g = h.2 ∙ ap (λ (c : List ℤ). c ++ drop (variable_count s) before) (one-case h.1 g.1) ∙ sym g.2
+room-once s reply before x y (Err q) h g = h ∙ sym g
 
-pub reply-into-once : {s reply : List ℕ} {before x y : List ℤ} {r t : Replied} → RepliesInto most_nodes s reply before r x → RepliesInto most_nodes s reply before t y → (r ≡ t) × (x ≡ y)
+pub reply-into-once : {s reply : List ℕ} {before x y : List ℤ} {r t : Result Replied Refused} → RepliesInto most_nodes s reply before r x → RepliesInto most_nodes s reply before t y → (r ≡ t) × (x ≡ y)
 reply-into-once {s} {reply} {before} {x} {y} {r} {t} h g =
     let e = reply-once h.answer g.answer in
-    (e, room-once s reply before x y r h.room (subst (λ (q : Replied). CaseRoom s reply before q y) (sym e) g.room))
+    (e, room-once s reply before x y r h.room (subst (λ (q : Result Replied Refused). CaseRoom s reply before q y) (sym e) g.room))
 
 pub digits-once : (s : List ℕ) (reply : Bor (List ℕ)) (i : ℕ) (p q : Bor (List ℕ)) → DigitsPart most_nodes s reply i p → DigitsPart most_nodes s reply i q → SamePart p q
 digits-once s reply i p q h g = where-once (given-decided s reply.now i) h g

@@ -1,5 +1,5 @@
 -- What `digits` gives (document 02, item 1): a variable's digits alone, as the very part of the lent reply.
-use Rattle.std.specs.Prelude.{ℕ, ◌<◌, ◌≡◌, List}
+use Rattle.std.specs.Prelude.{ℕ, ◌<◌, ◌≡◌, List, Ok}
 use Rattle.std.specs.Borrow.{Bor}
 use Rattle.lists.specs.Part.{PartWhere}
 use Rattle.layout.specs.Parts.{variable_count}
@@ -9,7 +9,7 @@ use Rattle.trial.specs.Replies.{Replies}
 
 -- `sat` is accepted, and the variable is listed
 abbrev pub DigitsGiven : ℕ → List ℕ → List ℕ → ℕ → Type 0
-DigitsGiven limit s reply i = Replies limit s reply Fails × (i < variable_count s)
+DigitsGiven limit s reply i = Replies limit s reply (Ok Fails) × (i < variable_count s)
 
 -- an empty part unless they are given
 abbrev pub DigitsPart : ℕ → List ℕ → Bor (List ℕ) → ℕ → Bor (List ℕ) → Type 0

@@ -1,13 +1,14 @@
 // A solver's reply, believed where its case makes the theorem false.
 #![tactic(auto)]
 
-ghost use Rattle.std.specs.Prelude.{◌≡◌, ◌≤◌, length, take};
+ghost use Rattle.std.specs.Prelude.{◌≡◌, ◌≤◌, length, take, Ok};
 ghost use Rattle.std.proofs.Math.Option.{none};
 ghost use Rattle.refusals.specs.Said.{said_of};
 ghost use Rattle.layout.specs.Limits.{block_bytes, most_variables, most_nodes};
 ghost use Rattle.layout.specs.Parts.{variable_count};
 ghost use Rattle.reading.specs.Cascade.{refusal_of};
 ghost use Rattle.replies.specs.Replies.{Reply};
+ghost use Rattle.trial.specs.declared.Replied.TheVariants.{Fails};
 ghost use Rattle.trial.specs.Replies.{Replies, RepliesInto};
 ghost use Rattle.trial.specs.Digits.{DigitsPart, DigitsSpan};
 ghost use Rattle.trial.specs.Trying.{is_in, values_refusal, case_refusal, NumbersReady, CaseReady};
@@ -15,15 +16,13 @@ ghost use Rattle.trial.specs.Trying.{is_in, values_refusal, case_refusal, Number
 use digits::Span;
 use layout::MOST_VARIABLES;
 use numbers::{Range, VariableNumber};
-use refusals::{Reading, Refusal};
-use replies::Reached;
+use refusals::{Cause, Refused};
 
-// What a reply comes to: unsat is claimed, a failing case is spelled, or the refusal.
-#[derive(Clone, Copy)]
+// What a reply comes to: unsat is claimed, or a failing case is spelled.
+#[derive(Clone, Copy, Debug, PartialEq, Eq)]
 pub enum Replied {
     Unsat,
     Fails,
-    Refused(Refusal),
 }
 
 // Whether a number is in a range.
@@ -34,97 +33,86 @@ fn inside(d: Range, x: i32) -> bool
 }
 
 // 12: the lowest variable whose value leaves its domain.
-fn values_in(sheet: &[u8], case: &[i32; MOST_VARIABLES]) -> Reading
+fn values_in(sheet: &[u8], case: &[i32; MOST_VARIABLES]) -> Result<(), Refused>
     requires { (block_bytes ≤ length sheet.now) × (variable_count sheet.now ≤ most_variables) }
     ensures { said_of result ≡ values_refusal sheet.now (take (variable_count sheet.now) case.now) }
 {
     let v = header::variable_count(sheet);
-    let mut i: usize = 0;
-    while i < v {
+    for i in 0..v {
         if !inside(records::domain(sheet, VariableNumber(i as u16)), case[i]) {
-            return Reading::Refused(Refusal {
-                number: 12,
+            return Err(Refused {
+                cause: Cause::Value,
                 place: i,
             });
         }
-        i += 1;
     }
-    Reading::Accepted
+    Ok(())
 }
 
 // 12, then 13: the case doesn't fail.
-fn case_fails(sheet: &[u8], case: &[i32; MOST_VARIABLES]) -> Reading
+fn case_fails(sheet: &[u8], case: &[i32; MOST_VARIABLES]) -> Result<(), Refused>
     requires { NumbersReady sheet.now case.now }
     ensures { said_of result ≡ case_refusal sheet.now (take (variable_count sheet.now) case.now) }
 {
-    let values = values_in(sheet, case);
-    let Reading::Accepted = values else {
-        return values;
-    };
+    values_in(sheet, case)?;
     let holds = evaluator::holds_at(sheet, case);
     if holds {
-        return Reading::Refused(Refusal {
-            number: 13,
+        return Err(Refused {
+            cause: Cause::Holds,
             place: 0,
         });
     }
-    Reading::Accepted
+    Ok(())
 }
 
 // Tries the case that a reply spells.
-fn try_case(sheet: &[u8], reply: &[u8], room: &mut [i16; MOST_VARIABLES]) -> Replied
+fn try_case(sheet: &[u8], reply: &[u8], room: &mut [i16; MOST_VARIABLES]) -> Result<Replied, Refused>
     requires { CaseReady sheet.now reply.now }
     ensures { RepliesInto most_nodes sheet.now reply.now room.old result room.new }
 {
     let v = header::variable_count(sheet);
     let mut case = [0i32; MOST_VARIABLES];
     digits::numbers(reply, v, &mut case);
-    let tried = case_fails(sheet, &case);
-    match tried {
-        Reading::Refused(r) => Replied::Refused(r),
-        Reading::Accepted => {
-            cases::put(&case, v, room);
-            Replied::Fails
-        }
-    }
+    case_fails(sheet, &case)?;
+    cases::put(&case, v, room);
+    Ok(Replied::Fails)
 }
 
 // What a reply that fits says.
-fn said(sheet: &[u8], reply: &[u8], room: &mut [i16; MOST_VARIABLES]) -> Replied
+fn said(sheet: &[u8], reply: &[u8], room: &mut [i16; MOST_VARIABLES]) -> Result<Replied, Refused>
     requires { (refusal_of most_nodes sheet.now ≡ none) × Reply (variable_count sheet.now) reply.now }
     ensures { RepliesInto most_nodes sheet.now reply.now room.old result room.new }
 {
     if replies::says_sat(reply) {
         return try_case(sheet, reply, room);
     }
-    Replied::Unsat
+    Ok(Replied::Unsat)
 }
 
 // 11: the first byte that fits no reply; else what the reply says.
-fn read_reply(sheet: &[u8], reply: &[u8], room: &mut [i16; MOST_VARIABLES]) -> Replied
+fn read_reply(sheet: &[u8], reply: &[u8], room: &mut [i16; MOST_VARIABLES]) -> Result<Replied, Refused>
     requires { refusal_of most_nodes sheet.now ≡ none }
     ensures { RepliesInto most_nodes sheet.now reply.now room.old result room.new }
 {
-    let reach = replies::reach(reply, header::variable_count(sheet));
-    match reach {
-        Reached::Stopped(place) => Replied::Refused(Refusal { number: 11, place }),
-        Reached::Whole => said(sheet, reply, room),
+    match replies::reach(reply, header::variable_count(sheet)) {
+        Ok(()) => said(sheet, reply, room),
+        Err(place) => Err(Refused {
+            cause: Cause::Reply,
+            place,
+        }),
     }
 }
 
 // What a reply comes to, with a failing case at the front of the room.
-pub fn reply_into(sheet: &[u8], reply: &[u8], room: &mut [i16; MOST_VARIABLES]) -> Replied
+pub fn reply_into(sheet: &[u8], reply: &[u8], room: &mut [i16; MOST_VARIABLES]) -> Result<Replied, Refused>
     ensures { RepliesInto most_nodes sheet.now reply.now room.old result room.new }
 {
-    let reading = reading::read(sheet);
-    match reading {
-        Reading::Refused(r) => Replied::Refused(r),
-        Reading::Accepted => read_reply(sheet, reply, room),
-    }
+    reading::read(sheet)?;
+    read_reply(sheet, reply, room)
 }
 
 // What a reply comes to.
-pub fn reply(sheet: &[u8], reply: &[u8]) -> Replied
+pub fn reply(sheet: &[u8], reply: &[u8]) -> Result<Replied, Refused>
     ensures { Replies most_nodes sheet.now reply.now result }
 {
     let mut room = [0i16; MOST_VARIABLES];
@@ -133,7 +121,7 @@ pub fn reply(sheet: &[u8], reply: &[u8]) -> Replied
 
 // The span of a variable's digits in a reply that spells a failing case; both numbers 0 where the variable isn't listed.
 fn listed_span(sheet: &[u8], reply: &[u8], variable: VariableNumber) -> Span
-    requires { Replies most_nodes sheet.now reply.now Replied.Fails }
+    requires { Replies most_nodes sheet.now reply.now (Ok Fails) }
     ensures { DigitsSpan most_nodes sheet.now reply.now variable.0 result.start result.size }
 {
     let i = variable.0 as usize;
@@ -147,11 +135,10 @@ fn listed_span(sheet: &[u8], reply: &[u8], variable: VariableNumber) -> Span
 pub fn digits_span(sheet: &[u8], reply: &[u8], variable: VariableNumber) -> Span
     ensures { DigitsSpan most_nodes sheet.now reply.now variable.0 result.start result.size }
 {
-    let replied = crate::reply(sheet, reply);
-    match replied {
-        Replied::Unsat => Span { start: 0, size: 0 },
-        Replied::Refused(_) => Span { start: 0, size: 0 },
-        Replied::Fails => listed_span(sheet, reply, variable),
+    match crate::reply(sheet, reply) {
+        Ok(Replied::Fails) => listed_span(sheet, reply, variable),
+        Ok(Replied::Unsat) => Span { start: 0, size: 0 },
+        Err(_) => Span { start: 0, size: 0 },
     }
 }
 

@@ -1,19 +1,25 @@
 -- `trial::case_fails` meets its contract: the values' refusal, or by the rule in the case. Assumes nothing.
+use mathlib.Core.Path.{◌≡◌, sym, ap, ◌∙◌}
+use borrow.Author.Rules.{rules}
+use Rattle.std.specs.Prelude.{Err}
+use Rattle.refusals.specs.Said.{said_of}
 use Rattle.reading.proofs.RuleLaws.{accepted-inside}
-use Rattle.trial.proofs.TryLaws.{standing, by_values, values-passed, by-holding, by-failing}
+use Rattle.trial.proofs.TryLaws.{by_values, standing, by-holding, by-failing}
 use Rattle.trial.proofs.case_fails.Goals as goal
 
-pub values_in-values-requires : goal.values_in-values-requires
-values_in-values-requires c = accepted-inside _ c.requires.accepted
+pub values_in-requires : goal.values_in-requires
+values_in-requires c = accepted-inside _ c.requires.accepted
 
-pub returns-in_default : goal.returns-in_default
-returns-in_default c = by_values _ _ c.values_in-values.ensures c.in_default.is
+pub returns-in_err-values_in : goal.returns-in_err-values_in
+returns-in_err-values_in c =
+    let d : c.from_residual.result ≡ Err c.in_err-values_in.field-0.0 = search rules in
+    ap said_of d ∙ by_values _ _ c.in_err-values_in.ensures
 
 pub holds_at-holds-requires : goal.holds_at-holds-requires
-holds_at-holds-requires c = standing _ c.requires (values-passed _ _ c.values_in-values.ensures c.in-Accepted.is)
+holds_at-holds-requires c = standing _ c.requires (sym c.in_ok-values_in.ensures)
 
 pub returns-then-holds : goal.returns-then-holds
-returns-then-holds c = by-holding _ _ c.values_in-values.ensures c.in-Accepted.is c.holds_at-holds.ensures c.if-holds.true
+returns-then-holds c = by-holding _ _ c.in_ok-values_in.ensures c.holds_at-holds.ensures c.if-holds.true
 
 pub returns : goal.returns
-returns c = by-failing _ _ c.values_in-values.ensures c.in-Accepted.is c.holds_at-holds.ensures c.if-holds.false
+returns c = by-failing _ _ c.in_ok-values_in.ensures c.holds_at-holds.ensures c.if-holds.false

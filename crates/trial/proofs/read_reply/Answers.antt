@@ -8,8 +8,8 @@ variable_count-requires c = (accepted-inside _ c.requires).0
 
 pub said-requires : goal.said-requires
 said-requires c =
-    (c.requires, reached-whole c.args.sheet.now c.args.reply.now c.variable_count.ensures c.reach-reach.ensures c.in-Whole.is)
+    (c.requires, reached-whole c.args.sheet.now c.args.reply.now c.variable_count.ensures c.reach.ensures c.in-Ok.is)
 
-pub returns-in-Stopped : goal.returns-in-Stopped
-returns-in-Stopped c =
-    into-11 _ _ _ c.requires (reached-off c.args.sheet.now c.args.reply.now c.variable_count.ensures c.reach-reach.ensures c.in-Stopped.is)
+pub returns-in-Err : goal.returns-in-Err
+returns-in-Err c =
+    into-11 _ _ _ c.requires (reached-off c.args.sheet.now c.args.reply.now c.variable_count.ensures c.reach.ensures c.in-Err.is)

@@ -1,5 +1,7 @@
 -- `trial::try_case` meets its contract: the case's refusal, or the case at the front of the room. Assumes nothing.
 use borrow.Author.Rules.{rules}
+use mathlib.Core.Path.{◌≡◌}
+use Rattle.std.specs.Prelude.{Err}
 use Rattle.reading.proofs.RuleLaws.{accepted-inside}
 use Rattle.trial.proofs.TryLaws.{row-case, row-ready, row_fits, into-case, into-fails}
 use Rattle.trial.proofs.try_case.Goals as goal
@@ -10,20 +12,21 @@ variable_count-v-requires c = (accepted-inside _ c.requires.accepted).0
 pub numbers-requires : goal.numbers-requires
 numbers-requires c = rw c.variable_count-v.ensures c.requires.spelled
 
-pub case_fails-tried-requires : goal.case_fails-tried-requires
-case_fails-tried-requires c =
+pub case_fails-requires : goal.case_fails-requires
+case_fails-requires c =
     row-ready _ c.requires.accepted c.variable_count-v.ensures c.numbers.ensures
 
 pub put-requires : goal.put-requires
 put-requires c =
     row_fits _ c.requires.accepted c.variable_count-v.ensures c.numbers.ensures (search rules)
 
-pub returns-in-Refused : goal.returns-in-Refused
-returns-in-Refused c =
+pub returns-in_err-case_fails : goal.returns-in_err-case_fails
+returns-in_err-case_fails c =
     let a = c.requires.accepted in
-    into-case _ _ _ a (row-case _ a c.variable_count-v.ensures c.numbers.ensures) c.case_fails-tried.ensures c.in-Refused.is
+    let d : c.from_residual.result ≡ Err c.in_err-case_fails.field-0.0 = search rules in
+    into-case _ _ _ a (row-case _ a c.variable_count-v.ensures c.numbers.ensures) d c.in_err-case_fails.ensures
 
-pub returns-in-Accepted : goal.returns-in-Accepted
-returns-in-Accepted c =
+pub returns : goal.returns
+returns c =
     let a = c.requires.accepted in
-    into-fails _ _ _ a (row-case _ a c.variable_count-v.ensures c.numbers.ensures) c.case_fails-tried.ensures c.in-Accepted.is (rw c.variable_count-v.ensures at c.put.ensures)
+    into-fails _ _ _ a (row-case _ a c.variable_count-v.ensures c.numbers.ensures) c.in_ok-case_fails.ensures (rw c.variable_count-v.ensures at c.put.ensures)

@@ -8,7 +8,4 @@ use Rattle.trial.specs.Trying.{value_refusal, values_refusal}
 use Rattle.trial.proofs.values_in.Given as goal
 
 abbrev pub invariant-loop-i : goal.invariant-loop-i
-invariant-loop-i l = (l.i ≤ l.v) × (values_refusal l.sheet (take (variable_count l.sheet) l.case) ≡ first (value_refusal l.sheet (take (variable_count l.sheet) l.case)) l.i (l.v - l.i))
-
-abbrev pub decreases-loop-i : goal.decreases-loop-i
-decreases-loop-i l = l.v - l.i
+invariant-loop-i l = values_refusal l.sheet (take (variable_count l.sheet) l.case) ≡ first (value_refusal l.sheet (take (variable_count l.sheet) l.case)) l.i (l.v - l.i)
