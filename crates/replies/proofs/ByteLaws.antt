@@ -1,39 +1,17 @@
 -- Blanks and digits by tests on the byte. Assumes nothing.
-use Prim.Native.Nat.{ℕ, ◌-◌, ◌≤◌, ◌<◌}
-use mathlib.Core.Path.{◌≡◌, refl, sym, ap, ◌∙◌}
+use Prim.Native.Nat.{ℕ, ◌+◌, ◌-◌, ◌≤◌, ◌<◌}
+use mathlib.Core.Path.{◌≡◌, refl, sym, ◌∙◌}
 use mathlib.Core.Logic.{◌⊎◌, inl, inr}
 use mathlib.Core.Bool.{Bool, true, false, cond, ◌&&◌, true≢false}
 use native.Mathlib.Omega.{arith}
 use lib.Dec.{eqb, leb}
-use borrow.Author.Tests.{ne_eqb, eqb-true, le-leb, lt-leb}
+use borrow.Author.Tests.{eq-eqb, eqb-true, le-leb, lt-leb}
 use Rattle.smtlib.specs.Characters.{among, digit_char, white_space}
 use Rattle.smtlib.specs.Tokens.{digit_value}
-
-pub blank-is : {c : ℕ} (d : ℕ) → c ≡ d → white_space d ≡ true → true ≡ white_space c
-blank-is d e h = sym (ap white_space e ∙ h)
 
 pub space : white_space 32 ≡ true
 unfolding white_space
 space = refl
-
-pub feed : white_space 10 ≡ true
-unfolding white_space
-feed = refl
-
-pub tab : white_space 9 ≡ true
-unfolding white_space
-tab = refl
-
-pub blank-last : (c : ℕ) → (c ≡ 32 → ⊥) → (c ≡ 10 → ⊥) → (c ≡ 9 → ⊥) → eqb c 13 ≡ white_space c
-unfolding white_space
-blank-last c a b d = go (eqb c 32) (eqb c 10) (eqb c 9) (eqb c 13) (ne_eqb c 32 a) (ne_eqb c 10 b) (ne_eqb c 9 d)
-  where
-    go : (p q r s : Bool) → p ≡ false → q ≡ false → r ≡ false → s ≡ elim p [ true ↦ true | false ↦ elim q [ true ↦ true | false ↦ elim r [ true ↦ true | false ↦ elim s [ true ↦ true | false ↦ false ] ] ] ]
-    go true q r s h k l = absurd (true≢false h)
-    go false true r s h k l = absurd (true≢false k)
-    go false false true s h k l = absurd (true≢false l)
-    go false false false true h k l = refl
-    go false false false false h k l = refl
 
 -- a blank is at most 32
 pub blank-low : (c : ℕ) → white_space c ≡ true → c ≤ 32
@@ -46,6 +24,15 @@ blank-low c h = go (eqb c 32) (eqb c 10) (eqb c 9) (eqb c 13) refl refl refl ref
     go false false true s a b d e h = let z = eqb-true c 9 d in omega arith
     go false false false true a b d e h = let z = eqb-true c 13 e in omega arith
     go false false false false a b d e h = absurd (let z : ◌≡◌ {A = ℕ} 0 1 = cc in omega arith)
+
+pub eqb_turned : (a b : ℕ) → eqb a b ≡ eqb b a
+eqb_turned a b = go (eqb a b) refl (eqb b a) refl
+  where
+    go : (p : Bool) → eqb a b ≡ p → (q : Bool) → eqb b a ≡ q → p ≡ q
+    go true e true f = refl
+    go false e false f = refl
+    go true e false f = absurd (true≢false (sym (eq-eqb b a (sym (eqb-true a b e))) ∙ f))
+    go false e true f = absurd (true≢false (sym (eq-eqb a b (sym (eqb-true b a f))) ∙ e))
 
 in-range : (a b c : ℕ) → a ≤ c → c ≤ b → among a b c ≡ true
 in-range a b c h k = rw (le-leb a c h, le-leb c b k)
@@ -70,11 +57,11 @@ module _ (c : ℕ) where
   pub digit-decimal : 48 ≤ c → c ≤ 57 → c - 48 ≡ digit_value c
   digit-decimal h k = tested (in-range 48 57 c h k) refl refl
 
-  pub digit-small : 97 ≤ c → c ≤ 102 → c - 87 ≡ digit_value c
-  digit-small h k = tested (off-range 48 57 c (inr (omega arith))) (in-range 97 102 c h k) refl
+  pub digit-small : 97 ≤ c → c ≤ 102 → c - 97 + 10 ≡ digit_value c
+  digit-small h k = (let e : c - 97 + 10 ≡ c - 87 = omega arith in e) ∙ tested (off-range 48 57 c (inr (omega arith))) (in-range 97 102 c h k) refl
 
-  pub digit-capital : 65 ≤ c → c ≤ 70 → c - 55 ≡ digit_value c
-  digit-capital h k = tested (off-range 48 57 c (inr (omega arith))) (off-range 97 102 c (inl (omega arith))) (in-range 65 70 c h k)
+  pub digit-capital : 65 ≤ c → c ≤ 70 → c - 65 + 10 ≡ digit_value c
+  digit-capital h k = (let e : c - 65 + 10 ≡ c - 55 = omega arith in e) ∙ tested (off-range 48 57 c (inr (omega arith))) (off-range 97 102 c (inl (omega arith))) (in-range 65 70 c h k)
 
   digit-none : (c < 48) ⊎ (57 < c) → (c < 97) ⊎ (102 < c) → (c < 65) ⊎ (70 < c) → 16 ≡ digit_value c
   digit-none a b d = tested (off-range 48 57 c a) (off-range 97 102 c b) (off-range 65 70 c d)
@@ -90,3 +77,5 @@ module _ (c : ℕ) where
 
   pub none_above : 102 < c → 16 ≡ digit_value c
   none_above h = digit-none (inr (omega arith)) (inr h) (inr (omega arith))
+
+pub ruleset digit_laws = (digit-decimal, digit-small, digit-capital, none_below, none_between, none-behind, none_above)

@@ -1,17 +1,23 @@
 -- How the reader passes the parts of a pattern. Assumes nothing.
 use Prim.Native.Nat.{ℕ, zero, suc, ◌+◌, ◌-◌, ◌/◌, ◌%◌, ◌≤◌, ◌<◌}
 use mathlib.Core.Path.{◌≡◌, refl, sym, ap, ◌∙◌}
-use mathlib.Core.Bool.{Bool, true, false, cond}
+use mathlib.Core.Bool.{Bool, true, false, cond, true≢false}
 use mathlib.Core.List.{List, [], ◌∷◌}
 use mathlib.Core.Option.{none, some}
-use native.Mathlib.Numerals.{add-one}
-use native.Mathlib.Nat.{sub-zero}
+use native.Mathlib.Numerals.{add-one, one-add}
+use native.Mathlib.Nat.{add-zero, sub-zero}
 use native.Mathlib.Omega.{arith}
 use native.Mathlib.Decide.{dec_lt}
 use lib.Dec.{eqb, ltb}
 use lib.ListN.{length, get_or, drop, replicate, drop_of_length-le, get_or-eq_default}
 use lib.Seq.{drop-cons}
-use borrow.Author.Tests.{eq-eqb, ne_eqb, ltb-true}
+use Rattle.std.proofs.lemmas.List.{drop-drop, get_or_read}
+use borrow.Author.Tests.{eq-eqb, ne_eqb, eqb-true, ltb-true, ltb-false}
+use Rattle.std.specs.Prelude.{Option, Some, None, Result, Ok, Err}
+use Rattle.std.specs.Borrow.{Bor}
+use Rattle.std.specs.List.{prefix_len}
+use Rattle.std.specs.Option.{option_eq}
+use Rattle.std.specs.Slice.{IsItemAt}
 use Rattle.lists.proofs.FirstLaws.{otherwise-none, otherwise-some}
 use Rattle.smtlib.specs.Characters.{white_space}
 use Rattle.wording.specs.Sixteen.{symbol_text}
@@ -19,176 +25,201 @@ use Rattle.grammar.specs.Patterns.{Pattern, end, anything, one, either, exact, t
 use Rattle.grammar.specs.Stops.{derive, may_end, stop, stops}
 use Rattle.grammar.proofs.MachineLaws.{stop-turn, stop-off, stop-short, stop-end, stop-same, end_same}
 use Rattle.grammar.proofs.PatternLaws.{derive-one, derive-off, derive-many, derive-past}
-use Rattle.replies.specs.declared.Here.{Here}
 use Rattle.replies.specs.Replies.{hex_digits, binary_digits, blanks, mark, digit_to, any_value, pair, pairs, listed, claim}
 use Rattle.replies.specs.Here.{stop_from, Passes, first_digit}
 
-abbrev pub at : ℕ → Here
-at k = record { place = k; off = false }
-
-abbrev off_at : ℕ → Here
-off_at k = record { place = k; off = true }
-
 -- ---- where a reading stops
 
-module _ (s : List ℕ) (h : Here) where
-  pub off-stop : (p : Pattern) → h.off ≡ true → stop_from p s h ≡ some h.place
-  off-stop p e = ap (λ (b : Bool). cond b (some h.place) (stops p h.place (drop h.place s))) e
+-- before a byte, and at the end
+module _ (s : List ℕ) (k : ℕ) where
+  pub byte-stop : (p : Pattern) → k < length s → stops p k (drop k s) ≡ stops p k (get_or s k 0 ∷ drop (suc k) s)
+  byte-stop p l = ap (stops p k) (drop-cons s k 0 l)
 
-  on-stop : (p : Pattern) → h.off ≡ false → stop_from p s h ≡ stops p h.place (drop h.place s)
-  on-stop p e = ap (λ (b : Bool). cond b (some h.place) (stops p h.place (drop h.place s))) e
-
-  -- before a byte, and at the end
-  pub byte-stop : (p : Pattern) → h.off ≡ false → h.place < length s → stop_from p s h ≡ stops p h.place (get_or s h.place 0 ∷ drop (suc h.place) s)
-  byte-stop p e l = on-stop p e ∙ ap (stops p h.place) (drop-cons s h.place 0 l)
-
-  pub last-stop : (p : Pattern) → h.off ≡ false → length s ≤ h.place → stop_from p s h ≡ stops p h.place []
-  last-stop p e l = on-stop p e ∙ ap (stops p h.place) (drop_of_length-le s l)
+  pub last-stop : (p : Pattern) → length s ≤ k → stops p k (drop k s) ≡ stops p k []
+  last-stop p l = ap (stops p k) (drop_of_length-le s l)
 
 -- two patterns that do the same before this byte, and at the end
-same_stop : (s : List ℕ) (h : Here) (p q : Pattern) → derive p (get_or s h.place 0) ≡ derive q (get_or s h.place 0) → (length s ≤ h.place → may_end p ≡ may_end q) → stop_from p s h ≡ stop_from q s h
-same_stop s h p q e d = go h.off refl
-  where
-    go : (b : Bool) → h.off ≡ b → stop_from p s h ≡ stop_from q s h
-    go true o = off-stop s h p o ∙ sym (off-stop s h q o)
-    go false o = elim (dec_lt h.place (length s)) [
-      | yes l ↦ byte-stop s h p o l ∙ stop-same derive may_end h.place (get_or s h.place 0) (drop (suc h.place) s) e ∙ sym (byte-stop s h q o l)
-      | no n ↦ let m : length s ≤ h.place = omega arith in last-stop s h p o m ∙ end_same derive may_end h.place (d m) ∙ sym (last-stop s h q o m)
-    ]
+same_stop : (s : List ℕ) (k : ℕ) (p q : Pattern) → derive p (get_or s k 0) ≡ derive q (get_or s k 0) → (length s ≤ k → may_end p ≡ may_end q) → stops p k (drop k s) ≡ stops q k (drop k s)
+same_stop s k p q e d = elim (dec_lt k (length s)) [
+  | yes l ↦ byte-stop s k p l ∙ stop-same derive may_end k (get_or s k 0) (drop (suc k) s) e ∙ sym (byte-stop s k q l)
+  | no n ↦ let m : length s ≤ k = omega arith in last-stop s k p m ∙ end_same derive may_end k (d m) ∙ sym (last-stop s k q m)
+]
 
 -- ---- one byte
 
-pub pass-off : {f : Pattern → Pattern} {s : List ℕ} {h : Here} → h.off ≡ true → Passes f s h h
-pass-off {f} {s} {h} e = record { same = λ p. off-stop s h (f p) e ∙ sym (off-stop s h p e) }
+module _ (s : List ℕ) (k : ℕ) (t : ℕ → Bool) where
+  pub take-one : k < length s → true ≡ t (get_or s k 0) → Passes (one t) s k (Ok (k + 1))
+  take-one l e = record { same = λ p. byte-stop s k (one t p) l ∙ stop-turn derive may_end k (get_or s k 0) (drop (suc k) s) (derive-one t p _ (sym e)) ∙ sym (ap (λ (j : ℕ). stops p j (drop j s)) (add-one k)) }
 
-pub pass_on : {f : Pattern → Pattern} {s : List ℕ} {h r : Here} → h.off ≡ false → Passes f s (at h.place) r → Passes f s h r
-pass_on {f} {s} {h} o x = record { same = λ p. on-stop s h (f p) o ∙ x.same p }
+  pub take_none : k < length s → false ≡ t (get_or s k 0) → Passes (one t) s k (Err k)
+  take_none l e = record { same = λ p. byte-stop s k (one t p) l ∙ stop-off derive may_end k (get_or s k 0) (drop (suc k) s) (derive-off t p _ (sym e)) }
 
-module _ {s : List ℕ} {h : Here} (o : h.off ≡ false) (t : ℕ → Bool) where
-  pub take-one : h.place < length s → true ≡ t (get_or s h.place 0) → Passes (one t) s h (at (h.place + 1))
-  take-one l e = record { same = λ p. byte-stop s h (one t p) o l ∙ stop-turn derive may_end h.place (get_or s h.place 0) (drop (suc h.place) s) (derive-one t p _ (sym e)) ∙ sym (ap (λ (k : ℕ). stops p k (drop k s)) (add-one h.place)) }
-
-  pub take_none : h.place < length s → false ≡ t (get_or s h.place 0) → Passes (one t) s h (off_at h.place)
-  take_none l e = record { same = λ p. byte-stop s h (one t p) o l ∙ stop-off derive may_end h.place (get_or s h.place 0) (drop (suc h.place) s) (derive-off t p _ (sym e)) }
-
-  pub take_last : length s ≤ h.place → Passes (one t) s h (off_at h.place)
+  pub take_last : length s ≤ k → Passes (one t) s k (Err k)
   unfolding may_end
-  take_last l = record { same = λ p. last-stop s h (one t p) o l ∙ stop-short derive may_end h.place refl }
+  take_last l = record { same = λ p. last-stop s k (one t p) l ∙ stop-short derive may_end k refl }
 
 -- no byte stands behind the end
 pub none-there : (s : List ℕ) (k : ℕ) → length s ≤ k → 0 ≡ get_or s k 0
 none-there s k l = sym (get_or-eq_default s 0 l)
 
--- ---- in a loop: what is left of f is g
+-- the byte that is looked up there, if any
+module _ (s : List ℕ) (k : ℕ) where
+  looked : (o : Option (Bor ℕ)) (r : Bor ℕ) → IsItemAt s k o → 0 < r.now → option_eq {T = Bor ℕ} (λ x y. eqb x.now y.now) o (Some r) ≡ eqb (get_or s k 0) r.now
+  looked None r l w =
+      let z = none-there s k (ltb-false k (length s) (sym l.0)) in
+      sym (ne_eqb _ _ (λ e. omega arith))
+  looked (Some x) r l w = ap (λ (c : ℕ). eqb c r.now) (get_or_read s k x.now (ltb-true k (length s) (sym l.0)) l.1 0)
 
-pub record Left (f g : Pattern → Pattern) (s : List ℕ) (h r : Here) : Type 0 where
-  pub left : (p : Pattern) → stop_from (f p) s h ≡ stop_from (g p) s r
+  pub looked-yes : (o : Option (Bor ℕ)) (r : Bor ℕ) {b : Bool} → IsItemAt s k o → b ≡ option_eq {T = Bor ℕ} (λ x y. eqb x.now y.now) o (Some r) → b ≡ true → 0 < r.now → get_or s k 0 ≡ r.now
+  looked-yes o r l e t w = eqb-true (get_or s k 0) r.now (sym (looked o r l w) ∙ sym e ∙ t)
 
-pub left-all : {f : Pattern → Pattern} {s : List ℕ} {h : Here} → Left f f s h h
-left-all = record { left = λ p. refl }
-
-left-none : {f g : Pattern → Pattern} {s : List ℕ} {h r : Here} → Left f g s h r → ((p : Pattern) → g p ≡ p) → Passes f s h r
-left-none {s = s} {r = r} w e = record { same = λ p. w.left p ∙ ap (λ (q : Pattern). stop_from q s r) (e p) }
-
-left-turn : {f g e k : Pattern → Pattern} {s : List ℕ} {h r t : Here} → Left f g s h r → ((p : Pattern) → g p ≡ e (k p)) → Passes e s r t → Left f k s h t
-left-turn {k = k} {s = s} {r = r} w q x = record { left = λ p. w.left p ∙ ap (λ (m : Pattern). stop_from m s r) (q p) ∙ x.same (k p) }
-
--- blanks, from place a on
-module _ {s : List ℕ} {a k : ℕ} where
-  pub blanks-turn : Left blanks blanks s (at a) (at k) → k < length s → white_space (get_or s k 0) ≡ true → Left blanks blanks s (at a) (at (k + 1))
-  blanks-turn w l e = record { left = λ p. w.left p ∙ byte-stop s (at k) (blanks p) refl l ∙ stop-turn derive may_end k (get_or s k 0) (drop (suc k) s) (derive-many white_space p _ e) ∙ sym (ap (λ (j : ℕ). stops (blanks p) j (drop j s)) (add-one k)) }
-
-  pub blanks-done : Left blanks blanks s (at a) (at k) → k < length s → white_space (get_or s k 0) ≡ false → Passes blanks s (at a) (at k)
-  blanks-done w l e = record { same = λ p. w.left p ∙ same_stop s (at k) (blanks p) p (derive-past white_space p _ e) (λ m. absurd (omega arith)) }
-
-  pub blanks-last : Left blanks blanks s (at a) (at k) → length s ≤ k → Passes blanks s (at a) (at k)
-  unfolding may_end
-  blanks-last w l = record { same = λ p. w.left p ∙ last-stop s (at k) (blanks p) refl l ∙ end_same derive may_end k refl ∙ sym (last-stop s (at k) p refl l) }
-
--- the bytes of a text
-module _ (w : List ℕ) (j : ℕ) {s : List ℕ} {h r : Here} where
-  pub text-turn : {t : Here} → Left (exact w) (exact (drop j w)) s h r → j < length w → Passes (one (eqb (get_or w j 0))) s r t → Left (exact w) (exact (drop (j + 1) w)) s h t
-  text-turn x l y = rw add-one (left-turn x (λ p. ap (λ (u : List ℕ). exact u p) (drop-cons w j 0 l)) y)
-
-  pub text-done : Left (exact w) (exact (drop j w)) s h r → length w ≤ j → Passes (exact w) s h r
-  text-done x l = left-none x (λ p. ap (λ (u : List ℕ). exact u p) (drop_of_length-le w l))
-
--- digits: so many of n are left
-pub record DigitsLeft (n base left : ℕ) (s : List ℕ) (h r : Here) : Type 0 where
-  pub digits : Left (times n (digit_to base)) (times left (digit_to base)) s h r
-
-module _ {n base left : ℕ} {s : List ℕ} {h r : Here} (x : DigitsLeft n base left s h r) where
-  pub digits-turn : {t : Here} → 0 < left → Passes (one (digit_to base)) s r t → DigitsLeft n base (left - 1) s h t
-  digits-turn l y = let e : left ≡ suc (left - 1) = omega arith in record { digits = left-turn x.digits (λ p. ap (λ (k : ℕ). times k (digit_to base) p) e) y }
-
-  pub digits-done : left ≤ 0 → Passes (times n (digit_to base)) s h r
-  digits-done l = let e : left ≡ 0 = omega arith in left-none x.digits (λ p. ap (λ (k : ℕ). times k (digit_to base) p) e)
-
--- pairs: those from variable i on are left of v
-pub record PairsLeft (v i : ℕ) (s : List ℕ) (h r : Here) : Type 0 where
-  pub those : Left (pairs 0 (replicate v any_value)) (pairs i (replicate (v - i) any_value)) s h r
-
-pub pairs-begin : {v : ℕ} {s : List ℕ} {h : Here} → PairsLeft v 0 s h h
-pairs-begin {v} {s} {h} = record { those = record { left = λ p. ap (λ (n : ℕ). stop_from (pairs 0 (replicate n any_value) p) s h) (sym (sub-zero v)) } }
-
-module _ {v i : ℕ} {s : List ℕ} {h r : Here} (x : PairsLeft v i s h r) where
-  pub pairs-turn : {t : Here} → i < v → Passes (pair i any_value) s r t → PairsLeft v (i + 1) s h t
-  pairs-turn l y = let e : v - i ≡ suc (v - suc i) = omega arith in rw add-one (record { those = left-turn x.those (λ p. ap (λ (n : ℕ). pairs i (replicate n any_value) p) e) y })
-
-  pub pairs-done : v ≤ i → Passes (pairs 0 (replicate v any_value)) s h r
-  pairs-done l = let e : v - i ≡ 0 = omega arith in left-none x.those (λ p. ap (λ (n : ℕ). pairs i (replicate n any_value) p) e)
+  pub looked-no : (o : Option (Bor ℕ)) (r : Bor ℕ) {b : Bool} → IsItemAt s k o → b ≡ option_eq {T = Bor ℕ} (λ x y. eqb x.now y.now) o (Some r) → b ≡ false → 0 < r.now → get_or s k 0 ≡ r.now → ⊥
+  looked-no o r l e f w q = true≢false (sym (eq-eqb (get_or s k 0) r.now q) ∙ sym (looked o r l w) ∙ sym e ∙ f)
 
 -- ---- one part behind another
 
-pub pass-then : {f g : Pattern → Pattern} {s : List ℕ} {h r t : Here} → Passes f s h r → Passes g s r t → Passes (λ p. f (g p)) s h t
+pub pass-then : {f g : Pattern → Pattern} {s : List ℕ} {k j : ℕ} {r : Result ℕ ℕ} → Passes f s k (Ok j) → Passes g s j r → Passes (λ p. f (g p)) s k r
 pass-then {g = g} x y = record { same = λ p. x.same (g p) ∙ y.same p }
 
+pub pass-off : {f g : Pattern → Pattern} {s : List ℕ} {k e : ℕ} → Passes f s k (Err e) → Passes (λ p. f (g p)) s k (Err e)
+pass-off {g = g} x = record { same = λ p. x.same (g p) }
+
+-- ---- blanks
+
+blanks-from : (p : Pattern) (k : ℕ) (u : List ℕ) → stops (blanks p) k u ≡ stops p (k + prefix_len white_space u) (drop (prefix_len white_space u) u)
+unfolding stop may_end
+blanks-from p k [] = rw add-zero
+blanks-from p k (c ∷ u) = go (white_space c) refl (blanks-from p (suc k) u)
+  where
+    go : (t : Bool) → white_space c ≡ t → stops (blanks p) (suc k) u ≡ stops p (suc k + prefix_len white_space u) (drop (prefix_len white_space u) u) → stops (blanks p) k (c ∷ u) ≡ stops p (k + cond t (1 + prefix_len white_space u) 0) (drop (cond t (1 + prefix_len white_space u) 0) (c ∷ u))
+    go true e h =
+        let n = prefix_len white_space u in
+        let d : suc k + n ≡ k + suc n = omega arith in
+        rw one-add (stop-turn derive may_end k c u (derive-many white_space p c e) ∙ h ∙ ap (λ (m : ℕ). stops p m (drop n u)) d)
+    go false e h = stop-same derive may_end k c u (derive-past white_space p c e) ∙ ap (λ (m : ℕ). stops p m (c ∷ u)) (sym (add-zero k))
+
+pub blanks-pass : (s : List ℕ) (k n : ℕ) → n ≡ prefix_len white_space (drop k s) → Passes blanks s k (Ok (k + n))
+blanks-pass s k n e =
+    let m = prefix_len white_space (drop k s) in
+    record { same = λ p. blanks-from p k (drop k s) ∙ ap (λ (l : List ℕ). stops p (k + m) l) (drop-drop m k s) ∙ ap (λ (j : ℕ). stops p (k + j) (drop (k + j) s)) (sym e) }
+
+-- ---- in a loop: what is left of f is g
+
+pub record Left (f g : Pattern → Pattern) (s : List ℕ) (h k : ℕ) : Type 0 where
+  pub left : (p : Pattern) → stops (f p) h (drop h s) ≡ stops (g p) k (drop k s)
+
+pub left-all : {f : Pattern → Pattern} {s : List ℕ} {k : ℕ} → Left f f s k k
+left-all = record { left = λ p. refl }
+
+left-none : {f g : Pattern → Pattern} {s : List ℕ} {h k : ℕ} → Left f g s h k → ((p : Pattern) → g p ≡ p) → Passes f s h (Ok k)
+left-none {s = s} {k = k} w e = record { same = λ p. w.left p ∙ ap (λ (q : Pattern). stops q k (drop k s)) (e p) }
+
+left-pass : {f g e : Pattern → Pattern} (m : Pattern → Pattern) {s : List ℕ} {h k : ℕ} {r : Result ℕ ℕ} → Left f g s h k → ((p : Pattern) → g p ≡ e (m p)) → Passes e s k r → (p : Pattern) → stops (f p) h (drop h s) ≡ stop_from (m p) s r
+left-pass m {s = s} {k = k} w q x p = w.left p ∙ ap (λ (n : Pattern). stops n k (drop k s)) (q p) ∙ x.same (m p)
+
+-- the bytes of a text
+module _ (w : List ℕ) (j : ℕ) {s : List ℕ} {h k : ℕ} (x : Left (exact w) (exact (drop j w)) s h k) where
+  parted : j < length w → (p : Pattern) → exact (drop j w) p ≡ one (eqb (get_or w j 0)) (exact (drop (suc j) w) p)
+  parted l p = ap (λ (u : List ℕ). exact u p) (drop-cons w j 0 l)
+
+  pub text-turn : {i : ℕ} → j < length w → Passes (one (eqb (get_or w j 0))) s k (Ok i) → Left (exact w) (exact (drop (j + 1) w)) s h i
+  text-turn l y = rw add-one (record { left = left-pass _ x (parted l) y })
+
+  pub text-off : {i : ℕ} → j < length w → Passes (one (eqb (get_or w j 0))) s k (Err i) → Passes (exact w) s h (Err i)
+  text-off l y = record { same = left-pass _ x (parted l) y }
+
+  pub text-done : length w ≤ j → Passes (exact w) s h (Ok k)
+  text-done l = left-none x (λ p. ap (λ (u : List ℕ). exact u p) (drop_of_length-le w l))
+
+-- digits: i of n are read
+pub record DigitsLeft (n base i : ℕ) (s : List ℕ) (h k : ℕ) : Type 0 where
+  pub digits : Left (times n (digit_to base)) (times (n - i) (digit_to base)) s h k
+
+pub digits-begin : {n base : ℕ} {s : List ℕ} {k : ℕ} → DigitsLeft n base 0 s k k
+digits-begin {n} = record { digits = rw sub-zero left-all }
+
+module _ {n base i : ℕ} {s : List ℕ} {h k : ℕ} (x : DigitsLeft n base i s h k) where
+  digits-parted : i < n → (p : Pattern) → times (n - i) (digit_to base) p ≡ one (digit_to base) (times (n - (i + 1)) (digit_to base) p)
+  digits-parted l p = let e : n - i ≡ suc (n - (i + 1)) = omega arith in ap (λ (m : ℕ). times m (digit_to base) p) e
+
+  pub digits-turn : {j : ℕ} → i < n → Passes (one (digit_to base)) s k (Ok j) → DigitsLeft n base (i + 1) s h j
+  digits-turn l y = record { digits = record { left = left-pass _ x.digits (digits-parted l) y } }
+
+  pub digits-off : {j : ℕ} → i < n → Passes (one (digit_to base)) s k (Err j) → Passes (times n (digit_to base)) s h (Err j)
+  digits-off l y = record { same = left-pass _ x.digits (digits-parted l) y }
+
+  pub digits-done : n ≤ i → Passes (times n (digit_to base)) s h (Ok k)
+  digits-done l = let e : n - i ≡ 0 = omega arith in left-none x.digits (λ p. ap (λ (m : ℕ). times m (digit_to base) p) e)
+
+-- pairs: those from variable i on are left of v
+pub record PairsLeft (v i : ℕ) (s : List ℕ) (h k : ℕ) : Type 0 where
+  pub those : Left (pairs 0 (replicate v any_value)) (pairs i (replicate (v - i) any_value)) s h k
+
+pub pairs-begin : {v : ℕ} {s : List ℕ} {k : ℕ} → PairsLeft v 0 s k k
+pairs-begin {v} = record { those = rw sub-zero left-all }
+
+module _ {v i : ℕ} {s : List ℕ} {h k : ℕ} (x : PairsLeft v i s h k) where
+  pairs-parted : i < v → (p : Pattern) → pairs i (replicate (v - i) any_value) p ≡ pair i any_value (pairs (i + 1) (replicate (v - (i + 1)) any_value) p)
+  pairs-parted l p = let e : v - i ≡ suc (v - (i + 1)) = omega arith in ap (λ (n : ℕ). pairs i (replicate n any_value) p) e ∙ ap (λ (m : ℕ). pair i any_value (pairs m (replicate (v - (i + 1)) any_value) p)) (sym (add-one i))
+
+  pub pairs-turn : {j : ℕ} → i < v → Passes (pair i any_value) s k (Ok j) → PairsLeft v (i + 1) s h j
+  pairs-turn l y = record { those = record { left = left-pass _ x.those (pairs-parted l) y } }
+
+  pub pairs-off : {j : ℕ} → i < v → Passes (pair i any_value) s k (Err j) → Passes (pairs 0 (replicate v any_value)) s h (Err j)
+  pairs-off l y = record { same = left-pass _ x.those (pairs-parted l) y }
+
+  pub pairs-done : v ≤ i → Passes (pairs 0 (replicate v any_value)) s h (Ok k)
+  pairs-done l = let e : v - i ≡ 0 = omega arith in left-none x.those (λ p. ap (λ (n : ℕ). pairs i (replicate n any_value) p) e)
+
 -- one of two bytes
-module _ (s : List ℕ) (h : Here) (a : ℕ) (p q : Pattern) where
-  pub fork-first : (a ≡ 0 → ⊥) → get_or s h.place 0 ≡ a → stop_from (either (one (eqb a) p) q) s h ≡ stop_from (one (eqb a) p) s h
+module _ (s : List ℕ) (k : ℕ) (a : ℕ) (p q : Pattern) where
+  pub fork-first : (a ≡ 0 → ⊥) → get_or s k 0 ≡ a → stops (either (one (eqb a) p) q) k (drop k s) ≡ stops (one (eqb a) p) k (drop k s)
   unfolding derive
   fork-first n e =
-      let d = derive-one (eqb a) p (get_or s h.place 0) (eq-eqb a _ (sym e)) in
-      same_stop s h (either (one (eqb a) p) q) (one (eqb a) p) (otherwise-some (derive q (get_or s h.place 0)) d ∙ sym d) (λ m. absurd (n (sym e ∙ sym (none-there s h.place m))))
+      let d = derive-one (eqb a) p (get_or s k 0) (eq-eqb a _ (sym e)) in
+      same_stop s k (either (one (eqb a) p) q) (one (eqb a) p) (otherwise-some (derive q (get_or s k 0)) d ∙ sym d) (λ m. absurd (n (sym e ∙ sym (none-there s k m))))
 
-  pub fork-second : (get_or s h.place 0 ≡ a → ⊥) → stop_from (either (one (eqb a) p) q) s h ≡ stop_from q s h
+  pub fork-second : (get_or s k 0 ≡ a → ⊥) → stops (either (one (eqb a) p) q) k (drop k s) ≡ stops q k (drop k s)
   unfolding derive may_end
   fork-second n =
-      same_stop s h (either (one (eqb a) p) q) q (otherwise-none (derive q (get_or s h.place 0)) (derive-off (eqb a) p (get_or s h.place 0) (ne_eqb a _ (λ e. n (sym e))))) (λ m. refl)
+      same_stop s k (either (one (eqb a) p) q) q (otherwise-none (derive q (get_or s k 0)) (derive-off (eqb a) p (get_or s k 0) (ne_eqb a _ (λ e. n (sym e))))) (λ m. refl)
 
 -- ---- values and symbols
 
-module _ {s : List ℕ} {h r t : Here} (x : Passes (one (eqb 35)) s h r) where
-  pub value-hex : get_or s r.place 0 ≡ 120 → Passes (λ p. one (eqb 120) (times hex_digits (digit_to 16) p)) s r t → Passes any_value s h t
-  value-hex e y = record { same = λ p. x.same _ ∙ fork-first s r 120 _ _ (λ z. omega arith) e ∙ y.same p }
+module _ {s : List ℕ} {h k : ℕ} {r : Result ℕ ℕ} (x : Passes (one (eqb 35)) s h (Ok k)) where
+  pub value-hex : get_or s k 0 ≡ 120 → Passes (λ p. one (eqb 120) (times hex_digits (digit_to 16) p)) s k r → Passes any_value s h r
+  value-hex e y = record { same = λ p. x.same _ ∙ fork-first s k 120 _ _ (λ z. omega arith) e ∙ y.same p }
 
-  pub value-binary : (get_or s r.place 0 ≡ 120 → ⊥) → Passes (λ p. one (eqb 98) (times binary_digits (digit_to 2) p)) s r t → Passes any_value s h t
-  value-binary n y = record { same = λ p. x.same _ ∙ fork-second s r 120 _ _ n ∙ y.same p }
+  pub value-binary : (get_or s k 0 ≡ 120 → ⊥) → Passes (λ p. one (eqb 98) (times binary_digits (digit_to 2) p)) s k r → Passes any_value s h r
+  value-binary n y = record { same = λ p. x.same _ ∙ fork-second s k 120 _ _ n ∙ y.same p }
 
-pub symbol-parts : (i : ℕ) {s : List ℕ} {h r t u : Here} → Passes (one (eqb 118)) s h r → Passes (exact (first_digit i)) s r t → Passes (one (eqb (48 + i % 10))) s t u → Passes (exact (symbol_text i)) s h u
+-- a symbol is its letter, its first digit where it has two, and its last
+pub symbol_split : (i : ℕ) (p : Pattern) → exact (symbol_text i) p ≡ one (eqb 118) (exact (first_digit i) (one (eqb (48 + i % 10)) p))
 unfolding symbol_text
-symbol-parts i {s} {h} {r} {t} {u} x y z = record { same = λ p. x.same _ ∙ go (ltb i 10) refl p (y.same (one (eqb (48 + i % 10)) p) ∙ z.same p) }
+symbol_split i p = ap (one (eqb 118)) (go (ltb i 10) refl)
   where
-    go : (b : Bool) → ltb i 10 ≡ b → (p : Pattern) → stop_from (exact (cond b [] ((48 + i / 10 % 10) ∷ [])) (one (eqb (48 + i % 10)) p)) s r ≡ stop_from p s u →
-        stop_from (exact (cond b ((48 + i) ∷ []) ((48 + i / 10 % 10) ∷ (48 + i % 10) ∷ [])) p) s r ≡ stop_from p s u
-    go true e p q =
+    go : (b : Bool) → ltb i 10 ≡ b → exact (cond b ((48 + i) ∷ []) ((48 + i / 10 % 10) ∷ (48 + i % 10) ∷ [])) p ≡ exact (cond b [] ((48 + i / 10 % 10) ∷ [])) (one (eqb (48 + i % 10)) p)
+    go true e =
         let l = ltb-true i 10 e in
         let d : 48 + i ≡ 48 + i % 10 = omega arith in
-        ap (λ (c : ℕ). stop_from (one (eqb c) p) s r) d ∙ q
-    go false e p q = q
+        ap (λ (c : ℕ). one (eqb c) p) d
+    go false e = refl
+
+pub symbol-parts : (i : ℕ) {s : List ℕ} {k : ℕ} {r : Result ℕ ℕ} → Passes (λ p. one (eqb 118) (exact (first_digit i) (one (eqb (48 + i % 10)) p))) s k r → Passes (exact (symbol_text i)) s k r
+symbol-parts i {s} {k} x = record { same = λ p. ap (λ (q : Pattern). stops q k (drop k s)) (symbol_split i p) ∙ x.same p }
 
 -- ---- the list
 
-module _ (v : ℕ) {s : List ℕ} {h r : Here} where
-  pub list-none : v ≡ 0 → Passes blanks s h r → stop_from (listed (replicate v any_value)) s h ≡ stop_from end s r
-  list-none e x = ap (λ (n : ℕ). stop_from (listed (replicate n any_value)) s h) e ∙ x.same end
+module _ (v : ℕ) {s : List ℕ} {k : ℕ} {r : Result ℕ ℕ} where
+  pub list-none : v ≡ 0 → Passes blanks s k r → stops (listed (replicate v any_value)) k (drop k s) ≡ stop_from end s r
+  list-none e x = ap (λ (n : ℕ). stops (listed (replicate n any_value)) k (drop k s)) e ∙ x.same end
 
-  pub list-some : {a b c : Here} → (v ≡ 0 → ⊥) → Passes (mark 40) s h a → Passes (pairs 0 (replicate v any_value)) s a b → Passes (mark 41) s b c → Passes blanks s c r → stop_from (listed (replicate v any_value)) s h ≡ stop_from end s r
-  list-some n x y z w = some-listed v n ∙ x.same _ ∙ y.same _ ∙ z.same _ ∙ w.same end
+  pub list-some : (v ≡ 0 → ⊥) → Passes (λ p. mark 40 (pairs 0 (replicate v any_value) (mark 41 (blanks p)))) s k r → stops (listed (replicate v any_value)) k (drop k s) ≡ stop_from end s r
+  list-some n x = some-listed v n ∙ x.same end
     where
-      some-listed : (k : ℕ) → (k ≡ 0 → ⊥) → stop_from (listed (replicate k any_value)) s h ≡ stop_from (mark 40 (pairs 0 (replicate k any_value) (mark 41 (blanks end)))) s h
-      some-listed zero m = absurd (m refl)
-      some-listed (suc k) m = refl
+      some-listed : (m : ℕ) → (m ≡ 0 → ⊥) → stops (listed (replicate m any_value)) k (drop k s) ≡ stops (mark 40 (pairs 0 (replicate m any_value) (mark 41 (blanks end)))) k (drop k s)
+      some-listed zero z = absurd (z refl)
+      some-listed (suc m) z = refl
 
 -- ---- the end
 
@@ -197,27 +228,34 @@ unfolding stop derive may_end
 all_fit k [] = refl
 all_fit k (c ∷ u) = all_fit (suc k) u
 
-module _ (s : List ℕ) (h : Here) where
-  pub off-some : (p : Pattern) → h.off ≡ true → some h.place ≡ stop_from p s h
-  off-some p e = sym (off-stop s h p e)
-
-  pub end_none : h.off ≡ false → length s ≤ h.place → none ≡ stop_from end s h
+module _ (s : List ℕ) (k : ℕ) where
+  pub end_none : length s ≤ k → none ≡ stops end k (drop k s)
   unfolding may_end
-  end_none o l = sym (last-stop s h end o l ∙ stop-end derive may_end h.place refl)
+  end_none l = sym (last-stop s k end l ∙ stop-end derive may_end k refl)
 
-  pub end-some : h.off ≡ false → h.place < length s → some h.place ≡ stop_from end s h
+  pub end_some : k < length s → some k ≡ stops end k (drop k s)
   unfolding derive
-  end-some o l = sym (byte-stop s h end o l ∙ stop-off derive may_end h.place (get_or s h.place 0) (drop (suc h.place) s) refl)
+  end_some l = sym (byte-stop s k end l ∙ stop-off derive may_end k (get_or s k 0) (drop (suc k) s) refl)
 
   -- behind `unsat`: at the end, and before a byte
-  pub claim-end : length s ≤ h.place → stop_from claim s h ≡ stop_from end s h
+  pub claim_end : length s ≤ k → none ≡ stops claim k (drop k s)
   unfolding derive may_end
-  claim-end l = go h.off refl
-    where
-      go : (b : Bool) → h.off ≡ b → stop_from claim s h ≡ stop_from end s h
-      go true o = off-stop s h claim o ∙ sym (off-stop s h end o)
-      go false o = last-stop s h claim o l ∙ end_same derive may_end h.place refl ∙ sym (last-stop s h end o l)
+  claim_end l = sym (last-stop s k claim l ∙ stop-end derive may_end k refl)
 
-  pub claim-byte : {r : Here} → h.place < length s → Passes (one white_space) s h r → stop_from claim s h ≡ cond r.off (some r.place) none
+  claim-byte : {r : Result ℕ ℕ} → k < length s → Passes (one white_space) s k r → stops claim k (drop k s) ≡ stop_from anything s r
   unfolding derive
-  claim-byte {r} l x = same_stop s h claim (one white_space anything) refl (λ m. absurd (omega arith)) ∙ x.same anything ∙ ap (cond r.off (some r.place)) (all_fit r.place (drop r.place s))
+  claim-byte l x = same_stop s k claim (one white_space anything) refl (λ m. absurd (omega arith)) ∙ x.same anything
+
+  pub claim_on : {j : ℕ} → k < length s → Passes (one white_space) s k (Ok j) → none ≡ stops claim k (drop k s)
+  claim_on {j} l x = sym (claim-byte l x ∙ all_fit j (drop j s))
+
+  pub claim_off : {j : ℕ} → k < length s → Passes (one white_space) s k (Err j) → some j ≡ stops claim k (drop k s)
+  claim_off l x = sym (claim-byte l x)
+
+pub ruleset digits_read = (digits-begin, digits-turn, digits-off, digits-done)
+
+pub ruleset pairs_read = (pairs-begin, pairs-turn, pairs-off, pairs-done)
+
+pub ruleset symbol_read = (symbol-parts)
+
+pub ruleset list_read = (list-none, list-some)

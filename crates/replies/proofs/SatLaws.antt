@@ -1,28 +1,22 @@
 -- Whether a reply's first word is that of `sat`, and what that tells of a reply. Assumes nothing.
-use Prim.Native.Nat.{ℕ, suc, ◌≤◌, ◌<◌}
+use Prim.Native.Nat.{ℕ, ◌<◌}
 use mathlib.Core.Path.{◌≡◌, refl, sym, ap, ◌∙◌}
 use mathlib.Core.Logic.{◌↔◌}
 use mathlib.Core.Bool.{Bool, true, false, true≢false, false≢true}
-use mathlib.Core.Option.{Option, none, some}
+use Rattle.std.specs.Prelude.{cond, Option, Some, None, find, not}
+use Rattle.std.specs.Option.{option_copied, option_eq}
+use Rattle.std.specs.Borrow.{Bor}
 use mathlib.Core.List.{List, [], ◌∷◌, ◌++◌, map}
-use native.Mathlib.Decide.{dec_lt}
 use native.Mathlib.Omega.{arith}
 use lib.Dec.{eqb}
-use lib.ListN.{length, get_or, drop}
 use borrow.Author.Tests.{eqb-true}
 use Rattle.lists.specs.Ascii.{ascii}
 use Rattle.smtlib.specs.Characters.{white_space}
-use Rattle.grammar.specs.Patterns.{Pattern, anything, one, exact, All, Fits}
-use Rattle.grammar.specs.Stops.{stop, derive, may_end, stops}
-use Rattle.grammar.proofs.MachineLaws.{stop-turn, stop-off, stop-same}
-use Rattle.grammar.proofs.PatternLaws.{derive-one, derive-off, derive-many, derive-past}
-use Rattle.replies.specs.declared.Here.{Here}
-use Rattle.replies.specs.Replies.{blanks, listed, claim, Reply}
+use Rattle.grammar.specs.Patterns.{Pattern, one, exact, All, Fits}
+use Rattle.replies.specs.Replies.{listed, claim, Reply}
 use Rattle.replies.specs.Says.{Numeral, written, Claims, Spells, SpellsSetting, Says, unsat, sat}
 use Rattle.replies.specs.Answers.{sat_first}
-use Rattle.replies.specs.Here.{stop_from, Passes}
-use Rattle.replies.proofs.ByteLaws.{blank-low}
-use Rattle.replies.proofs.PassLaws.{at, byte-stop, last-stop, off-stop, all_fit, none-there}
+use Rattle.replies.proofs.ByteLaws.{blank-low, eqb_turned}
 use Rattle.replies.proofs.SaysLaws.{reply-says}
 
 -- ---- the first byte that is no blank
@@ -35,54 +29,19 @@ first-at : (c : ℕ) (r : List ℕ) → white_space c ≡ false → sat_first (c
 unfolding sat_first
 first-at c r e = rw (e, sat_first)
 
--- ---- the byte behind the blanks
-
--- a text that begins so, whatever follows
-abbrev word : Pattern
-word = one (eqb 115) anything
-
-abbrev whole : Option ℕ → Bool
-whole none = true
-whole (some k) = false
-
-word-stop : (k c : ℕ) (s : List ℕ) → whole (stops word k (c ∷ s)) ≡ eqb 115 c
-word-stop k c s = go (eqb 115 c) refl
+-- it is the first that is found to be no blank
+first-is-found : (s : List ℕ) → sat_first s ≡ elim (find (λ c. not (white_space c)) s) [ None ↦ false | Some c ↦ eqb 115 c ]
+unfolding sat_first
+first-is-found [] = refl
+first-is-found (c ∷ s) = go (white_space c) refl (first-is-found s)
   where
-    go : (t : Bool) → eqb 115 c ≡ t → whole (stops word k (c ∷ s)) ≡ t
-    go true e = ap whole (stop-turn derive may_end k c s (derive-one (eqb 115) anything c e) ∙ all_fit (suc k) s)
-    go false e = ap whole (stop-off derive may_end k c s (derive-off (eqb 115) anything c e))
+    go : (t : Bool) → white_space c ≡ t → sat_first s ≡ elim (find (λ d. not (white_space d)) s) [ None ↦ false | Some d ↦ eqb 115 d ] → sat_first (c ∷ s) ≡ elim (cond (not t) (Some c) (find (λ d. not (white_space d)) s)) [ None ↦ false | Some d ↦ eqb 115 d ]
+    go true e h = first-skip c s e ∙ h
+    go false e h = first-at c s e
 
-first-stop : (k : ℕ) (s : List ℕ) → whole (stops (blanks word) k s) ≡ sat_first s
-unfolding stop may_end sat_first
-first-stop k [] = refl
-first-stop k (c ∷ s) = go (white_space c) refl (first-stop (suc k) s)
-  where
-    go : (t : Bool) → white_space c ≡ t → whole (stops (blanks word) (suc k) s) ≡ sat_first s → whole (stops (blanks word) k (c ∷ s)) ≡ sat_first (c ∷ s)
-    go true e h = ap whole (stop-turn derive may_end k c s (derive-many white_space word c e)) ∙ h ∙ sym (first-skip c s e)
-    go false e h = ap whole (stop-same derive may_end k c s (derive-past white_space word c e)) ∙ word-stop k c s ∙ sym (first-at c s e)
-
-blanks-fit : (k : ℕ) (s : List ℕ) → stops (blanks anything) k s ≡ none
-unfolding stop may_end
-blanks-fit k [] = refl
-blanks-fit k (c ∷ s) = go (white_space c) refl (blanks-fit (suc k) s)
-  where
-    go : (t : Bool) → white_space c ≡ t → stops (blanks anything) (suc k) s ≡ none → stops (blanks anything) k (c ∷ s) ≡ none
-    go true e h = stop-turn derive may_end k c s (derive-many white_space anything c e) ∙ h
-    go false e h = stop-same derive may_end k c s (derive-past white_space anything c e) ∙ all_fit k (c ∷ s)
-
-ended : (k : ℕ) → whole (stops word k []) ≡ false
-unfolding stop may_end
-ended k = refl
-
-pub first-peeked : {s : List ℕ} {r : Here} {c : ℕ} → Passes blanks s (at 0) r → c ≡ get_or s r.place 0 → eqb 115 c ≡ sat_first s
-first-peeked {s} {r} x e = ap (eqb 115) e ∙ sym (sym (first-stop 0 s) ∙ ap whole (x.same word) ∙ there r.off refl)
-  where
-    there : (b : Bool) → r.off ≡ b → whole (stop_from word s r) ≡ eqb 115 (get_or s r.place 0)
-    there true o = absurd (let z = sym (blanks-fit 0 s) ∙ x.same anything ∙ off-stop s r anything o in let q : ◌≡◌ {A = ℕ} 0 1 = cc in omega arith)
-    there false o = elim (dec_lt r.place (length s)) [
-      | yes l ↦ ap whole (byte-stop s r word o l) ∙ word-stop r.place (get_or s r.place 0) (drop (suc r.place) s)
-      | no n ↦ let m : length s ≤ r.place = omega arith in ap whole (last-stop s r word o m) ∙ ended r.place ∙ ap (eqb 115) (none-there s r.place m)
-    ]
+pub first-found : (s : List ℕ) (o : Option (Bor ℕ)) (r : Bor ℕ) → option_copied o ≡ find (λ c. not (white_space c)) s → r.now ≡ 115 → option_eq {T = Bor ℕ} (λ x y. eqb x.now y.now) o (Some r) ≡ sat_first s
+first-found s None r e f = sym (first-is-found s ∙ ap (λ (o : Option ℕ). elim o [ None ↦ false | Some c ↦ eqb 115 c ]) (sym e))
+first-found s (Some c) r e f = ap (eqb c.now) f ∙ eqb_turned c.now 115 ∙ sym (first-is-found s ∙ ap (λ (o : Option ℕ). elim o [ None ↦ false | Some d ↦ eqb 115 d ]) (sym e))
 
 -- the first word's first byte
 first-is : (a : ℕ) (p : Pattern) (b r : List ℕ) → 32 < a → All white_space b → Fits (one (eqb a) p) r → sat_first (b ++ r) ≡ eqb 115 a

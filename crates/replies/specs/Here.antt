@@ -1,28 +1,26 @@
--- Follows the code: what a part of the reader does, by the part of a pattern that it passes.
-use Rattle.std.specs.Prelude.{ℕ, ◌+◌, ◌/◌, ◌%◌, ◌≡◌, Bool, cond, List, [], ◌∷◌, ltb, get_or, drop}
+-- Follows the code: what a part of the reader does, by the part of a pattern that it passes. It goes on before a place, or is off at it, since the byte there fits no reply.
+use Rattle.std.specs.Prelude.{ℕ, ◌+◌, ◌/◌, ◌%◌, ◌≡◌, Bool, cond, List, [], ◌∷◌, ltb, drop, Result, Ok, Err}
 use Rattle.std.proofs.Math.Option.{Option, none, some}
 use Rattle.grammar.specs.Patterns.{Pattern, one}
 use Rattle.grammar.specs.Stops.{stops}
-use Rattle.replies.specs.declared.Here.{Here}
-use Rattle.replies.specs.declared.Reached.{Reached}
-use Rattle.replies.specs.declared.Reached.TheVariants.{Whole, Stopped}
 
 -- where the reading stops that goes on through a pattern
-abbrev pub stop_from : Pattern → List ℕ → Here → Option ℕ
-stop_from p s h = cond h.off (some h.place) (stops p h.place (drop h.place s))
+abbrev pub stop_from : Pattern → List ℕ → Result ℕ ℕ → Option ℕ
+stop_from p s (Ok k) = stops p k (drop k s)
+stop_from p s (Err k) = some k
 
--- from h to r the reader passes what f puts before a pattern
-pub record Passes (f : Pattern → Pattern) (s : List ℕ) (h r : Here) : Type 0 where
-  pub same : (p : Pattern) → stop_from (f p) s h ≡ stop_from p s r
+-- from place k to r the reader passes what f puts before a pattern
+pub record Passes (f : Pattern → Pattern) (s : List ℕ) (k : ℕ) (r : Result ℕ ℕ) : Type 0 where
+  pub same : (p : Pattern) → stop_from (f p) s (Ok k) ≡ stop_from p s r
 
 -- one byte, whatever class the test is of
-abbrev pub Takes : List ℕ → Here → Bool → Here → Type 0
-Takes s h fits r = (t : ℕ → Bool) → fits ≡ t (get_or s h.place 0) → Passes (one t) s h r
+abbrev pub Takes : List ℕ → ℕ → (ℕ → Bool → Type 0) → Result ℕ ℕ → Type 0
+Takes s k Says r = (t : ℕ → Bool) → ((c : ℕ) (b : Bool) → Says c b → b ≡ t c) → Passes (one t) s k r
 
 -- the first of a symbol's two digits
 abbrev pub first_digit : ℕ → List ℕ
 first_digit i = cond (ltb i 10) [] ((48 + i / 10 % 10) ∷ [])
 
-abbrev pub place_of : Reached → Option ℕ
-place_of Whole = none
-place_of (Stopped p) = some p
+abbrev pub place_of : Result Unit ℕ → Option ℕ
+place_of (Ok _) = none
+place_of (Err p) = some p

@@ -1,8 +1,7 @@
 // Reads a solver's reply, one part of its grammar after another.
 #![tactic(auto)]
 
-ghost use Rattle.std.specs.Prelude.{◌≡◌, cond, ◌+◌, ◌/◌, ◌%◌, eqb, get_or, replicate};
-ghost use Rattle.std.proofs.Math.Option.{none, some};
+ghost use Rattle.std.specs.Prelude.{◌≡◌, ◌+◌, ◌/◌, ◌%◌, eqb, replicate, Ok};
 ghost use Rattle.lists.specs.Ascii.{ascii};
 ghost use Rattle.smtlib.specs.Characters.{white_space};
 ghost use Rattle.smtlib.specs.Tokens.{digit_value};
@@ -17,319 +16,227 @@ pub const HEX_DIGITS: usize = 4;
 
 pub const BINARY_DIGITS: usize = 16;
 
-const UNSAT: [u8; 5] = *b"unsat";
+// A part of the reader starts before a place. It answers the place behind the part, or the one at which the bytes fit no reply.
 
-const SAT: [u8; 3] = *b"sat";
-
-// Where the reading stands: before a place, or off at it, since the byte there fits no reply.
-#[derive(Clone, Copy)]
-struct Here {
-    place: usize,
-    off: bool,
-}
-
-// The bytes are a reply, or the place of the first that fits none.
-#[derive(Clone, Copy)]
-pub enum Reached {
-    Whole,
-    Stopped(usize),
-}
-
+#[tactic(auto, unfolding(smtlib::specs::Characters::white_space))]
 fn blank(c: u8) -> bool
     ensures { result ≡ white_space c }
 {
-    if c == b' ' {
-        return true;
-    }
-    if c == b'\n' {
-        return true;
-    }
-    if c == b'\t' {
-        return true;
-    }
-    c == b'\r'
+    matches!(c, b' ' | b'\n' | b'\t' | b'\r')
 }
 
 // A digit's value, in either case; 16 for any other byte.
+#[tactic(auto, using(crate::proofs::ByteLaws::digit_laws))]
 pub fn digit(c: u8) -> u8
     ensures { result ≡ digit_value c }
 {
-    if c < b'0' {
-        return 16;
-    }
-    if c <= b'9' {
-        return c - b'0';
-    }
-    if c < b'A' {
-        return 16;
-    }
-    if c <= b'F' {
-        return c - 55;
-    }
-    if c < b'a' {
-        return 16;
-    }
-    if c <= b'f' {
-        return c - 87;
-    }
-    16
-}
-
-// The byte that stands here; 0 where there is none.
-fn peek(reply: &[u8], here: Here) -> u8
-    ensures { result ≡ get_or reply.now here.place 0 }
-{
-    let k = here.place;
-    if k < reply.len() {
-        return reply[k];
-    }
-    0
-}
-
-// Behind the byte that stands here, if it fits.
-fn behind(reply: &[u8], here: Here, fits: bool) -> Here
-    ensures { Takes reply.now here fits result }
-{
-    if here.off {
-        return here;
-    }
-    let k = here.place;
-    if reply.len() <= k {
-        return Here {
-            place: k,
-            off: true,
-        };
-    }
-    if fits {
-        return Here {
-            place: k + 1,
-            off: false,
-        };
-    }
-    Here {
-        place: k,
-        off: true,
+    match c {
+        b'0'..=b'9' => c - b'0',
+        b'A'..=b'F' => c - b'A' + 10,
+        b'a'..=b'f' => c - b'a' + 10,
+        _ => 16,
     }
 }
 
-fn byte(reply: &[u8], here: Here, wanted: u8) -> Here
-    ensures { Passes (one (eqb wanted)) reply.now here result }
+// One byte that the test fits.
+fn one<F: Fn(u8) -> bool>(reply: &[u8], at: usize, fits: F) -> Result<usize, usize>
+    requires { F.IsAlwaysCallable fits }
+    ensures { Takes reply.now at (F.post fits) result }
 {
-    behind(reply, here, wanted == peek(reply, here))
+    match reply.get(at) {
+        Some(c) if fits(*c) => Ok(at + 1),
+        _ => Err(at),
+    }
 }
 
-fn one_blank(reply: &[u8], here: Here) -> Here
-    ensures { Passes (one white_space) reply.now here result }
+fn byte(reply: &[u8], at: usize, wanted: u8) -> Result<usize, usize>
+    ensures { Passes (one (eqb wanted)) reply.now at result }
 {
-    behind(reply, here, blank(peek(reply, here)))
+    one(reply, at, |c| c == wanted)
 }
 
-fn one_digit(reply: &[u8], here: Here, base: u8) -> Here
-    ensures { Passes (one (digit_to base)) reply.now here result }
+fn one_blank(reply: &[u8], at: usize) -> Result<usize, usize>
+    ensures { Passes (one white_space) reply.now at result }
 {
-    behind(reply, here, digit(peek(reply, here)) < base)
+    one(reply, at, blank)
+}
+
+fn one_digit(reply: &[u8], at: usize, base: u8) -> Result<usize, usize>
+    ensures { Passes (one (digit_to base)) reply.now at result }
+{
+    one(reply, at, |c| digit(c) < base)
 }
 
 // All blanks from here on.
-fn blanks(reply: &[u8], here: Here) -> Here
-    ensures { Passes blanks reply.now here result }
+fn blanks(reply: &[u8], at: usize) -> usize
+    ensures { Passes blanks reply.now at (Ok result) }
 {
-    if here.off {
-        return here;
-    }
-    let mut k = here.place;
-    while k < reply.len() {
-        if blank(reply[k]) {
-            k += 1;
-        } else {
-            return Here {
-                place: k,
-                off: false,
-            };
-        }
-    }
-    Here {
-        place: k,
-        off: false,
-    }
+    at + reply.iter().skip(at).take_while(|c| blank(**c)).count()
 }
 
 // These bytes.
-fn text(reply: &[u8], here: Here, wanted: &[u8]) -> Here
-    ensures { Passes (exact wanted.now) reply.now here result }
+fn text(reply: &[u8], mut at: usize, wanted: &[u8]) -> Result<usize, usize>
+    ensures { Passes (exact wanted.now) reply.now at result }
 {
-    let mut h = here;
-    let mut j: usize = 0;
-    while j < wanted.len() {
-        h = byte(reply, h, wanted[j]);
-        j += 1;
+    for c in wanted {
+        at = byte(reply, at, *c)?;
     }
-    h
+    Ok(at)
 }
 
 // Blanks and a parenthesis.
-fn mark(reply: &[u8], here: Here, wanted: u8) -> Here
-    ensures { Passes (mark wanted) reply.now here result }
+fn mark(reply: &[u8], at: usize, wanted: u8) -> Result<usize, usize>
+    ensures { Passes (mark wanted) reply.now at result }
 {
-    byte(reply, blanks(reply, here), wanted)
+    byte(reply, blanks(reply, at), wanted)
 }
 
 // So many digits to the base.
-fn numeral(reply: &[u8], here: Here, base: u8, count: usize) -> Here
-    ensures { Passes (times count (digit_to base)) reply.now here result }
+#[tactic(auto, using(crate::proofs::PassLaws::digits_read))]
+fn numeral(reply: &[u8], mut at: usize, base: u8, count: usize) -> Result<usize, usize>
+    ensures { Passes (times count (digit_to base)) reply.now at result }
 {
-    let mut h = here;
-    let mut left = count;
-    while left > 0 {
-        h = one_digit(reply, h, base);
-        left -= 1;
+    for _i in 0..count {
+        at = one_digit(reply, at, base)?;
     }
-    h
+    Ok(at)
 }
 
 // The letter of a base, and the digits.
-fn based(reply: &[u8], here: Here, letter: u8, base: u8, count: usize) -> Here
-    ensures { Passes (λ p. one (eqb letter) (times count (digit_to base) p)) reply.now here result }
+fn based(reply: &[u8], at: usize, letter: u8, base: u8, count: usize) -> Result<usize, usize>
+    ensures { Passes (λ p. one (eqb letter) (times count (digit_to base) p)) reply.now at result }
 {
-    numeral(reply, byte(reply, here, letter), base, count)
+    let digits = byte(reply, at, letter)?;
+    numeral(reply, digits, base, count)
 }
 
-fn value(reply: &[u8], here: Here) -> Here
-    ensures { Passes any_value reply.now here result }
+fn value(reply: &[u8], at: usize) -> Result<usize, usize>
+    ensures { Passes any_value reply.now at result }
 {
-    let hash = byte(reply, here, b'#');
-    if peek(reply, hash) == b'x' {
-        return based(reply, hash, b'x', 16, HEX_DIGITS);
+    let letter = byte(reply, at, b'#')?;
+    if reply.get(letter) == Some(&b'x') {
+        return based(reply, letter, b'x', 16, HEX_DIGITS);
     }
-    based(reply, hash, b'b', 2, BINARY_DIGITS)
+    based(reply, letter, b'b', 2, BINARY_DIGITS)
 }
 
 fn tens(i: usize) -> u8
     ensures { result ≡ 48 + i / 10 % 10 }
 {
-    (48 + i / 10 % 10) as u8
+    b'0' + (i / 10 % 10) as u8
 }
 
 fn units(i: usize) -> u8
     ensures { result ≡ 48 + i % 10 }
 {
-    (48 + i % 10) as u8
+    b'0' + (i % 10) as u8
 }
 
 // A symbol's first digit, where it has two.
-fn first_digit(reply: &[u8], here: Here, i: usize) -> Here
-    ensures { Passes (exact (first_digit i)) reply.now here result }
+fn first_digit(reply: &[u8], at: usize, i: usize) -> Result<usize, usize>
+    ensures { Passes (exact (first_digit i)) reply.now at result }
 {
     if i < 10 {
-        return here;
+        return Ok(at);
     }
-    byte(reply, here, tens(i))
+    byte(reply, at, tens(i))
 }
 
-fn symbol(reply: &[u8], here: Here, i: usize) -> Here
-    ensures { Passes (exact (symbol_text i)) reply.now here result }
+#[tactic(auto, using(crate::proofs::PassLaws::symbol_read))]
+fn symbol(reply: &[u8], at: usize, i: usize) -> Result<usize, usize>
+    ensures { Passes (exact (symbol_text i)) reply.now at result }
 {
-    let digits = first_digit(reply, byte(reply, here, b'v'), i);
-    byte(reply, digits, units(i))
+    let digits = byte(reply, at, b'v')?;
+    let last = first_digit(reply, digits, i)?;
+    byte(reply, last, units(i))
 }
 
 // A pair up to its symbol.
-fn opened(reply: &[u8], here: Here, i: usize) -> Here
-    ensures { Passes (λ p. mark 40 (blanks (exact (symbol_text i) p))) reply.now here result }
+fn opened(reply: &[u8], at: usize, i: usize) -> Result<usize, usize>
+    ensures { Passes (λ p. mark 40 (blanks (exact (symbol_text i) p))) reply.now at result }
 {
-    let open = mark(reply, here, b'(');
+    let open = mark(reply, at, b'(')?;
     symbol(reply, blanks(reply, open), i)
 }
 
 // A variable and its value.
-fn pair(reply: &[u8], here: Here, i: usize) -> Here
-    ensures { Passes (pair i any_value) reply.now here result }
+fn pair(reply: &[u8], at: usize, i: usize) -> Result<usize, usize>
+    ensures { Passes (pair i any_value) reply.now at result }
 {
-    let gap = one_blank(reply, opened(reply, here, i));
-    let said = value(reply, blanks(reply, gap));
+    let named = opened(reply, at, i)?;
+    let gap = one_blank(reply, named)?;
+    let said = value(reply, blanks(reply, gap))?;
     mark(reply, said, b')')
 }
 
 // Each variable once, in order.
-fn pairs(reply: &[u8], here: Here, count: usize) -> Here
-    ensures { Passes (pairs 0 (replicate count any_value)) reply.now here result }
+#[tactic(auto, using(crate::proofs::PassLaws::pairs_read))]
+fn pairs(reply: &[u8], mut at: usize, count: usize) -> Result<usize, usize>
+    ensures { Passes (pairs 0 (replicate count any_value)) reply.now at result }
 {
-    let mut h = here;
-    let mut i: usize = 0;
-    while i < count {
-        h = pair(reply, h, i);
-        i += 1;
+    for i in 0..count {
+        at = pair(reply, at, i)?;
     }
-    h
+    Ok(at)
 }
 
 // The list, where there are variables, and blanks.
-fn list(reply: &[u8], here: Here, count: usize) -> Here
-    ensures { stop_from (listed (replicate count any_value)) reply.now here ≡ stop_from end reply.now result }
+#[tactic(auto, using(crate::proofs::PassLaws::list_read))]
+fn list(reply: &[u8], at: usize, count: usize) -> Result<usize, usize>
+    ensures { stop_from (listed (replicate count any_value)) reply.now (Ok at) ≡ stop_from end reply.now result }
 {
     if count == 0 {
-        return blanks(reply, here);
+        return Ok(blanks(reply, at));
     }
-    let open = mark(reply, here, b'(');
-    let close = mark(reply, pairs(reply, open, count), b')');
-    blanks(reply, close)
+    let open = mark(reply, at, b'(')?;
+    let last = pairs(reply, open, count)?;
+    let close = mark(reply, last, b')')?;
+    Ok(blanks(reply, close))
 }
 
 // The reply must end here.
-fn ended(reply: &[u8], here: Here) -> Reached
-    ensures { place_of result ≡ stop_from end reply.now here }
+#[tactic(auto, using(crate::proofs::PassLaws::end_none, crate::proofs::PassLaws::end_some))]
+fn ended(reply: &[u8], at: usize) -> Result<(), usize>
+    ensures { place_of result ≡ stop_from end reply.now (Ok at) }
 {
-    if here.off {
-        return Reached::Stopped(here.place);
+    if at < reply.len() {
+        return Err(at);
     }
-    if here.place < reply.len() {
-        return Reached::Stopped(here.place);
+    Ok(())
+}
+
+// Behind `unsat`: the end, or a blank, and anything may follow.
+#[tactic(auto, using(crate::proofs::PassLaws::claim_end, crate::proofs::PassLaws::claim_on, crate::proofs::PassLaws::claim_off))]
+fn claimed(reply: &[u8], at: usize) -> Result<(), usize>
+    ensures { place_of result ≡ stop_from claim reply.now (Ok at) }
+{
+    if at < reply.len() {
+        one_blank(reply, at)?;
     }
-    Reached::Whole
+    Ok(())
 }
 
-// Anything may follow.
-fn unread(here: Here) -> Reached
-    ensures { place_of result ≡ cond here.off (some here.place) none }
+fn unsat(reply: &[u8], at: usize) -> Result<(), usize>
+    ensures { place_of result ≡ stop_from (exact (ascii "unsat") claim) reply.now (Ok at) }
 {
-    if here.off {
-        return Reached::Stopped(here.place);
-    }
-    Reached::Whole
+    let word = text(reply, at, b"unsat")?;
+    claimed(reply, word)
 }
 
-// Behind `unsat`.
-fn claimed(reply: &[u8], here: Here) -> Reached
-    ensures { place_of result ≡ stop_from claim reply.now here }
+fn sat(reply: &[u8], at: usize, count: usize) -> Result<(), usize>
+    ensures { place_of result ≡ stop_from (exact (ascii "sat") (listed (replicate count any_value))) reply.now (Ok at) }
 {
-    if here.place < reply.len() {
-        return unread(one_blank(reply, here));
-    }
-    ended(reply, here)
+    let word = text(reply, at, b"sat")?;
+    let last = list(reply, word, count)?;
+    ended(reply, last)
 }
 
-fn unsat(reply: &[u8], here: Here) -> Reached
-    ensures { place_of result ≡ stop_from (exact (ascii "unsat") claim) reply.now here }
-{
-    claimed(reply, text(reply, here, &UNSAT))
-}
-
-fn sat(reply: &[u8], here: Here, count: usize) -> Reached
-    ensures { place_of result ≡ stop_from (exact (ascii "sat") (listed (replicate count any_value))) reply.now here }
-{
-    ended(reply, list(reply, text(reply, here, &SAT), count))
-}
-
-// How far the bytes begin a reply for `count` variables.
-pub fn reach(reply: &[u8], count: usize) -> Reached
+// How far the bytes begin a reply for `count` variables: they are one, or the place of the first that fits none.
+pub fn reach(reply: &[u8], count: usize) -> Result<(), usize>
     ensures { Answers count reply.now result }
 {
-    let start = Here {
-        place: 0,
-        off: false,
-    };
-    let word = blanks(reply, start);
-    if peek(reply, word) == b'u' {
+    let word = blanks(reply, 0);
+    if reply.get(word) == Some(&b'u') {
         return unsat(reply, word);
     }
     sat(reply, word, count)
@@ -339,9 +246,5 @@ pub fn reach(reply: &[u8], count: usize) -> Reached
 pub fn says_sat(reply: &[u8]) -> bool
     ensures { result ≡ sat_first reply.now }
 {
-    let start = Here {
-        place: 0,
-        off: false,
-    };
-    b's' == peek(reply, blanks(reply, start))
+    reply.iter().find(|c| !blank(**c)) == Some(&b's')
 }

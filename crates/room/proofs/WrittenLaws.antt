@@ -29,8 +29,8 @@ pub fills-once : {o : Option Refusal} {u before x y : List ℕ} {r t : Result �
 fills-once {o} {u} {before} {x} {y} {r} {t} h g = (written-injective r t (h.answer ∙ sym g.answer), h.room ∙ sym g.room)
 
 -- a refusal, and the text at the front
-pub fills-refused : {o : Option Refusal} {e : Refused} (t before : List ℕ) → o ≡ some (refusal_of e) → Fills o t before (Err e) before
-fills-refused t before d = record { answer = ap (λ (q : Option Refusal). written_verdict q t) (sym d); room = ap (λ (q : Option Refusal). written_room q t before) (sym d) }
+pub fills-refused : {o : Option Refusal} {a : Result ℕ Refused} {e : Refused} (t before : List ℕ) → a ≡ Err e → o ≡ some (refusal_of e) → Fills o t before a before
+fills-refused t before p d = rw p record { answer = ap (λ (q : Option Refusal). written_verdict q t) (sym d); room = ap (λ (q : Option Refusal). written_room q t before) (sym d) }
 
 pub fills-done : {o : Option Refusal} {t before after : List ℕ} {n : ℕ} → o ≡ none → Wrote t before after 0 n → Fills o t before (Ok n) after
 fills-done {o} {t} {before} {after} {n} d w = record {

@@ -1,24 +1,21 @@
--- `replies::blanks` meets its contract. Invariant: the blanks from the present byte on are left. Assumes nothing.
-use mathlib.Core.Path.{sym, ◌∙◌}
-use Rattle.replies.proofs.PassLaws.{left-all, pass-off, pass_on, blanks-turn, blanks-done, blanks-last}
+-- `replies::blanks` meets its contract. Assumes nothing.
+use mathlib.Core.Path.{◌∙◌}
+use lib.ListN.{drop}
+use Rattle.std.proofs.Common.{rules, tests}
+use Rattle.std.proofs.lemmas.Iterator.{YieldsList-from_slice}
+use Rattle.std.proofs.lemmas.Iterator.Adapters.{YieldsList-from_skip}
+use Rattle.std.proofs.lemmas.Iterator.Consumers.{count_from_yields_List}
+use Rattle.std.proofs.lemmas.Iterator.Search.{YieldsList-from_take_while}
+use Rattle.std.proofs.lemmas.List.Folds.{length-prefix_len}
+use Rattle.smtlib.specs.Characters.{white_space}
+use Rattle.replies.proofs.PassLaws.{blanks-pass}
 use Rattle.replies.proofs.blanks.Goals as goal
 
-pub returns-then-here : goal.returns-then-here
-returns-then-here c = pass-off c.if-here.true
-
-pub loop-k-init : goal.loop-k-init
-loop-k-init c = left-all
-
-pub blank-requires : goal.blank-requires
-blank-requires c = tt
-
-pub loop-k-preserved : goal.loop-k-preserved
-loop-k-preserved c =
-    blanks-turn c.loop-k.invariant c.loop-k-test.true (sym c.blank.ensures ∙ c.if-blank.true)
-
-pub returns-else-blank : goal.returns-else-blank
-returns-else-blank c =
-    pass_on c.if-here.false (blanks-done c.loop-k.invariant c.loop-k-test.true (sym c.blank.ensures ∙ c.if-blank.false))
-
 pub returns : goal.returns
-returns c = pass_on c.if-here.false (blanks-last c.loop-k.invariant c.loop-k-test.false)
+returns c =
+    let s = c.args.reply.now in
+    let all = YieldsList-from_slice {s = c.skip.result.iter} s cc in
+    let rest = YieldsList-from_skip {s = c.skip.result} c.args.at all c.skip.ensures.count in
+    let known = rw (← c.take_while.ensures.source) at rest in
+    let e = count_from_yields_List c.take_while.result c.count.result c.count.ensures.ran (YieldsList-from_take_while _ white_space known c.take_while.ensures.closure c.take_while.ensures.done (λ x b q k. search (rules, tests))) in
+    blanks-pass s _ _ (e ∙ length-prefix_len white_space (drop c.args.at s))

@@ -1,13 +1,8 @@
 -- `replies::byte` meets its contract. Assumes nothing.
-use mathlib.Core.Path.{ap}
 use lib.Dec.{eqb}
+use borrow.Author.Rules.{rules}
+use Rattle.replies.proofs.ByteLaws.{eqb_turned}
 use Rattle.replies.proofs.byte.Goals as goal
 
-pub peek-requires : goal.peek-requires
-peek-requires c = tt
-
-pub behind-requires : goal.behind-requires
-behind-requires c = tt
-
 pub returns : goal.returns
-returns c = c.behind.ensures (eqb _) (ap (eqb _) c.peek.ensures)
+returns c = c.one.ensures (eqb c.args.wanted) (λ d b e. search (rules, eqb_turned))

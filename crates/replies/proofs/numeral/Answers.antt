@@ -1,15 +1,6 @@
--- `replies::numeral` meets its contract. Invariant: so many digits are left. Assumes nothing.
-use Rattle.replies.proofs.PassLaws.{left-all, digits-turn, digits-done}
+-- `replies::numeral` meets its contract. Assumes nothing.
+use Rattle.replies.proofs.PassLaws.{digits-turn}
 use Rattle.replies.proofs.numeral.Goals as goal
 
-pub loop-left-init : goal.loop-left-init
-loop-left-init c = record { digits = left-all }
-
-pub one_digit-h-requires : goal.one_digit-h-requires
-one_digit-h-requires c = tt
-
-pub loop-left-preserved : goal.loop-left-preserved
-loop-left-preserved c = digits-turn c.loop-left.invariant c.loop-left-test.true c.one_digit-h.ensures
-
-pub returns : goal.returns
-returns c = digits-done c.loop-left.invariant c.loop-left-test.false
+pub loop-i-preserved : goal.loop-i-preserved
+loop-i-preserved c = digits-turn c.loop-i.invariant c.loop-i-test.true c.in_ok-at.ensures

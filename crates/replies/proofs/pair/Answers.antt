@@ -1,22 +1,7 @@
 -- `replies::pair` meets its contract. Assumes nothing.
-use Rattle.replies.proofs.PassLaws.{pass-then}
+use Rattle.std.proofs.lemmas.Result.{err_from_is_err_and}
+use Rattle.replies.proofs.PassLaws.{pass-then, pass-off}
 use Rattle.replies.proofs.pair.Goals as goal
 
-pub opened-requires : goal.opened-requires
-opened-requires c = tt
-
-pub one_blank-gap-requires : goal.one_blank-gap-requires
-one_blank-gap-requires c = tt
-
-pub blanks-requires : goal.blanks-requires
-blanks-requires c = tt
-
-pub value-said-requires : goal.value-said-requires
-value-said-requires c = tt
-
-pub mark-requires : goal.mark-requires
-mark-requires c = tt
-
-pub returns : goal.returns
-returns c =
-    pass-then c.opened.ensures (pass-then c.one_blank-gap.ensures (pass-then c.blanks.ensures (pass-then c.value-said.ensures c.mark.ensures)))
+pub returns-in_err-said : goal.returns-in_err-said
+returns-in_err-said c = let e = err_from_is_err_and c.from_residual-in_err-said.result c.from_residual-in_err-said.ensures.1 in rw (e.1, e.2) (pass-then c.in_ok-named.ensures (pass-then c.in_ok-gap.ensures (pass-then c.blanks.ensures (pass-off c.in_err-said.ensures))))
