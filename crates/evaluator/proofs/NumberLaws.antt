@@ -1,18 +1,13 @@
 -- The number that is found of a tree by the steps of the code is its value as a number. Assumes nothing.
 use Prim.Native.Nat.{ℕ}
-use mathlib.Core.Path.{◌≡◌, refl, ap, ap₂, ◌∙◌}
+use mathlib.Core.Path.{◌≡◌, refl, ap, ap₂}
 use mathlib.Core.Bool.{Bool, true, false, not, ◌&&◌, ◌||◌}
 use lib.IntN.{ℤ, pos, neg_ℤ, ◌+ℤ◌, ◌-ℤ◌, ◌*ℤ◌}
-use mir.Syntax.{w32}
-use mir.Val.{SFits, to_z, of_z}
-use mir.Facts.{to_z-of_z}
 use Rattle.meaning.specs.declared.Sort.{Sort}
 use Rattle.meaning.specs.Tree.{Tree}
 use Rattle.meaning.specs.Value.{implied, equivalent, equals, chosen, value}
-use Rattle.meaning.proofs.Equals.{equals-same}
-use Rattle.kinds.specs.declared.Kind.{Kind}
 use Rattle.layout.specs.Fold.{of_tree}
-use Rattle.evaluator.specs.Numbers.{bit, number_of, is_true, applied_of, number_step}
+use Rattle.evaluator.specs.Numbers.{bit, number_of, is_true, number_step}
 
 -- ---- truth values as numbers
 not-number : (a : Bool) → chosen (is_true (bit a)) (pos 0) (pos 1) ≡ bit (not a)
@@ -40,25 +35,6 @@ same_number false false = refl
 pub bit-true : (a : Bool) → is_true (bit a) ≡ a
 bit-true true = refl
 bit-true false = refl
-
--- what a test's answer gives
-pub bit-yes : {a : Bool} → a ≡ true → pos 1 ≡ bit a
-bit-yes e = rw e
-
-pub bit-no : {a : Bool} → a ≡ false → pos 0 ≡ bit a
-bit-no e = rw e
-
--- ---- the test of equality
-pub equals-true : {x y : ℤ} → x ≡ y → equals x y ≡ true
-equals-true {x} {y} e = rw (← e) (equals-same x)
-
--- ---- what an arm of the code gives: what its kind's line says, or what a call ensures that comes to the same
-module _ {k j : Kind} (x y z : ℤ) {r : ℤ} (kind : k ≡ j) where
-  pub by_kind : r ≡ applied_of j x y z → r ≡ applied_of k x y z
-  by_kind e = rw kind e
-
-  pub by_call : {e : ℤ} → r ≡ e → SFits w32 r → e ≡ applied_of j x y z → to_z w32 (of_z w32 r) ≡ applied_of k x y z
-  by_call d fits e = rw (to_z-of_z fits, kind) (d ∙ e)
 
 -- ---- a tree's number, where variable i has the value ρ i
 module _ (ρ : ℕ → ℤ) where

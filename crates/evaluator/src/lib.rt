@@ -2,17 +2,16 @@
 #![tactic(auto)]
 
 ghost use Rattle.std.specs.Prelude.{◌≡◌, ◌<◌, take};
-ghost use Rattle.std.specs.Int.Signed.{lt_z, le_z};
 ghost use Rattle.numbers.specs.Ranges.{Narrow};
 ghost use Rattle.numbers.specs.Two.{dec};
 ghost use Rattle.meaning.specs.Value;
-ghost use Rattle.meaning.specs.Value.{equals, chosen};
+ghost use Rattle.meaning.specs.Value.{chosen};
 ghost use Rattle.meaning.specs.Rule.{value_in};
 ghost use Rattle.meaning.specs.Cases.{holds};
 ghost use Rattle.layout.specs.Limits.{most_variables};
 ghost use Rattle.layout.specs.Goal.{tree_at};
 ghost use Rattle.layout.specs.Parts.{node_count, variable_count, table, rule_in};
-ghost use Rattle.evaluator.specs.Numbers.{bit, number_of, is_true, applied_of};
+ghost use Rattle.evaluator.specs.Numbers.{number_of, is_true, applied_of};
 ghost use Rattle.evaluator.specs.Standing.{Standing};
 
 use kinds::{Kind, Shape};
@@ -23,7 +22,7 @@ use numbers::{NodeNumber, VariableNumber};
 fn constant(value: u16) -> i32
     ensures { result ≡ dec 16 value }
 {
-    numbers::signed(value) as i32
+    i32::from(numbers::signed(value))
 }
 
 // A variable's value in a case.
@@ -41,46 +40,22 @@ fn choose(x: i32, y: i32, z: i32) -> i32
     if 0 < x { y } else { z }
 }
 
-// 1 where the numbers are equal, else 0.
-fn equal(x: i32, y: i32) -> i32
-    ensures { result ≡ bit (equals x y) }
-{
-    if x == y { 1 } else { 0 }
-}
-
-// 1 where the first number is less than the second, else 0.
-fn less(x: i32, y: i32) -> i32
-    ensures { result ≡ bit (lt_z x y) }
-{
-    if x < y { 1 } else { 0 }
-}
-
-// 1 where the first number is at most the second, else 0.
-fn at_most(x: i32, y: i32) -> i32
-    ensures { result ≡ bit (le_z x y) }
-{
-    if x <= y { 1 } else { 0 }
-}
-
 // The number of a node from those of its operands: x, y and z, as many as its kind has.
 fn apply(kind: Kind, x: i32, y: i32, z: i32) -> i32
     requires { Narrow x × Narrow y }
     ensures { result ≡ applied_of kind x y z }
 {
     match kind {
-        Kind::Unknown => 0,
+        Kind::Unknown | Kind::False => 0,
         Kind::True => 1,
-        Kind::False => 0,
         Kind::Not => choose(x, 0, 1),
         Kind::And => choose(x, y, 0),
         Kind::Or => choose(x, 1, y),
         Kind::Implies => choose(x, y, 1),
-        Kind::Iff => equal(x, y),
-        Kind::Equal => equal(x, y),
-        Kind::Less => less(x, y),
-        Kind::AtMost => at_most(x, y),
-        Kind::Constant => x,
-        Kind::Variable => x,
+        Kind::Iff | Kind::Equal => i32::from(x == y),
+        Kind::Less => i32::from(x < y),
+        Kind::AtMost => i32::from(x <= y),
+        Kind::Constant | Kind::Variable => x,
         Kind::Minus => -x,
         Kind::Sum => x + y,
         Kind::Difference => x - y,
@@ -96,8 +71,7 @@ pub fn value(sheet: &[u8], case: &[i32; MOST_VARIABLES], node: NodeNumber) -> i3
 {
     let r = records::record_at(sheet, node);
     let kind = r.kind;
-    let shape = kinds::shape_of(kind);
-    match shape {
+    match kinds::shape_of(kind) {
         Shape::Wrong => 0,
         Shape::Bare => apply(kind, 0, 0, 0),
         Shape::Valued => constant(r.value),

@@ -19,14 +19,14 @@ use Rattle.meaning.specs.declared.Sort.{Sort}
 use Rattle.kinds.specs.declared.Record.{Record}
 use Rattle.kinds.specs.declared.Shape.{Shape}
 use Rattle.kinds.specs.declared.Shape.TheVariants.{Wrong, Bare, Valued, Named, One, Two, Three}
-use Rattle.layout.specs.Limits.{block_bytes, most_variables, node_bytes, most_nodes, node_place}
+use Rattle.layout.specs.Limits.{block_bytes, most_variables, most_nodes}
 use Rattle.layout.specs.Starts.{shape_at, sort_at, operands_of, sorts_of, start_by, start_step, start_at, Ordered, VariableBelow}
 use Rattle.layout.specs.Parts.{node_count, goal_at, variable_count, table}
 use Rattle.layout.specs.Fold.{found_by, node_step, of_node}
 use Rattle.layout.proofs.StartLaws.{Before}
 use Rattle.refusals.proofs.SaidLaws.{unless-none, unless-true, unless-false}
 use Rattle.header.specs.Header.{Counted}
-use Rattle.header.proofs.HeaderLaws.{block_inside, node-inside}
+use Rattle.header.proofs.HeaderLaws.{block_inside}
 use Rattle.order.specs.Order.{rightly_placed, Falling}
 use Rattle.order.proofs.OrderLaws.{Keeps, decides-keeps, ordered-before, known-low, known_start, known-placed}
 use Rattle.findings.specs.declared.Finding.{Finding}
@@ -136,10 +136,6 @@ module _ (s : List ℕ) where
 module _ {s : List ℕ} {n v : ℕ} {starts : List ℕ} {findings : List Kept} {i : ℕ} (g : Going s n v starts findings i) where
   abbrev fi : ℕ → Finding
   fi = findings_in findings
-
-  -- the record of node i lies inside
-  pub inside : i < n → node_place i + node_bytes ≤ length s
-  inside h = node-inside g.counted (rw g.nodes-are at h)
 
   pub falling : Falling i starts
   falling j h = known-low (table s) i g.starts-are j

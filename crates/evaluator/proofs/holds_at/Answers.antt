@@ -10,9 +10,6 @@ node_count-goal-requires c = block_inside (counted c.requires)
 pub overflow_sub-goal : goal.overflow_sub-goal
 overflow_sub-goal c = omega (arith, c.node_count-goal.ensures, (counted c.requires).some-node)
 
-pub overflow_cast-goal : goal.overflow_cast-goal
-overflow_cast-goal c = omega (arith, c.node_count-goal.ensures, (counted c.requires).most)
-
 pub value-requires : goal.value-requires
 value-requires c = (c.requires, omega (arith, c.node_count-goal.ensures, (counted c.requires).some-node))
 
