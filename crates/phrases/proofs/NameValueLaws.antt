@@ -47,6 +47,8 @@ module _ (s : List ℕ) (e : refusal_of most_nodes s ≡ none) where
         let q = et ∙ ap (name_in s) ep in
         record { name = q; short = rw q (omega arith) }
 
+pub ruleset few = (few-variables)
+
 pub name-value-from : {s t : List ℕ} {i : ℕ} {z : ℤ} → Named s i t → SFits w16 z → ascii " " ++ t ++ ascii "=" ++ signed (to_z w16 (of_z w16 z)) ≡ name_value (variable_at s i).name z
 unfolding name_value
 name-value-from n f = rw (n.name, kept-is f)

@@ -81,6 +81,7 @@ fn put_name_value(sheet: &[u8], n: VariableNumber, z: i16, room: &mut [u8], at: 
 }
 
 // Those of the first variables, by a row of values.
+#[tactic(auto, using(crate::proofs::NameValueLaws::few))]
 fn put_name_values(
     sheet: &[u8],
     row: &[i16; MOST_VARIABLES],
@@ -92,10 +93,8 @@ fn put_name_values(
     ensures { Wrote (name_values_at sheet.now row.now count) room.old room.new at result × (result ≤ at + longest_name_value * most_variables) }
 {
     let mut next = at;
-    let mut i: usize = 0;
-    while i < count {
-        next = put_name_value(sheet, VariableNumber(i as u16), row[i], room, next);
-        i += 1;
+    for (i, z) in row[..count].iter().enumerate() {
+        next = put_name_value(sheet, VariableNumber(i as u16), *z, room, next);
     }
     next
 }

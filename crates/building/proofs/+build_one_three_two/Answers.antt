@@ -108,9 +108,6 @@ three-operator-requires t c = let o = c.requires in let k = three-kept o c.build
 pub three-put-requires : goal.three-put-requires
 three-put-requires t c = let k = three-kept-3 c.requires c.build-a.ensures c.build-b.ensures c.build-c.ensures in (k.few, omega (arith, k.inside))
 
-pub three-shape_of-sheet : goal.three-shape_of-sheet
-three-shape_of-sheet t c = let k = c.build-a.auto in omega arith
-
 pub three-returns : goal.three-returns
 three-returns t c = three-built c.build-a.ensures c.build-b.ensures c.build-c.ensures c.operator.ensures c.put.ensures
 

@@ -9,13 +9,6 @@ use Rattle.phrases.proofs.fails_line.Goals as goal
 pub variable_count-count-requires : goal.variable_count-count-requires
 variable_count-count-requires c = block_inside (accepted-counted _ c.requires.0.accepted)
 
-pub put_name_values-q-requires : goal.put_name_values-q-requires
-put_name_values-q-requires c =
-    (c.requires.0, omega (arith, c.variable_count-count.ensures), omega arith)
-
-pub put-requires : goal.put-requires
-put-requires c = omega arith
-
 pub returns : goal.returns
 returns c =
     let w = chain3 (omega (arith, c.put_name_values-q.ensures.0.place)) c.put-p.ensures c.put_name_values-q.ensures.0 c.put.ensures in
