@@ -6,7 +6,8 @@ use denote.Ref.{Bor}
 use Rattle.lists.specs.Part.{SamePart}
 use Rattle.lists.proofs.Decided.{decided}
 use Rattle.lists.proofs.PartLaws.{where-once}
-use Rattle.refusals.specs.declared.Reading.{Reading}
+use Rattle.std.specs.Prelude.{Result}
+use Rattle.refusals.specs.declared.Refused.{Refused}
 use Rattle.refusals.specs.Said.{said_of}
 use Rattle.refusals.proofs.SaidLaws.{said-once}
 use Rattle.layout.specs.Limits.{most_nodes}
@@ -17,5 +18,5 @@ use Rattle.blocks.proofs.BlockLaws.{given-decided}
 pub block-once : (sheet : Bor (List ℕ)) (k : ℕ) (p q : Bor (List ℕ)) → BlockPart sheet k p → BlockPart sheet k q → SamePart p q
 block-once sheet k p q h g = where-once (decided (given-decided sheet.now k)) h g
 
-pub read-blocks-once : (s : List ℕ) (r t : Reading) → said_of r ≡ early most_nodes s → said_of t ≡ early most_nodes s → r ≡ t
+pub read-blocks-once : (s : List ℕ) (r t : Result Unit Refused) → said_of r ≡ early most_nodes s → said_of t ≡ early most_nodes s → r ≡ t
 read-blocks-once s r t = said-once r t

@@ -7,13 +7,15 @@ ghost use Rattle.layout.specs.Limits.{block_bytes, content_bytes, most_nodes};
 ghost use Rattle.layout.specs.Checks.{weighted, check_of, block_right, Inside};
 ghost use Rattle.refusals.specs.Said.{said_of};
 ghost use Rattle.blocks.specs.Block.{BlockPart};
-ghost use Rattle.blocks.specs.Early.{checks_refusal, early};
+ghost use Rattle.blocks.specs.Early.{length_right, checks_refusal, early};
 
 use layout::{BLOCK_BYTES, CONTENT_BYTES, MODULUS, MOST_SHEET_BYTES};
-use refusals::{Reading, Refusal};
+use refusals::{Cause, Refused};
 
-// A fifth of a content: so few bytes that the compiler makes their weights constants, and vectors of them.
-const STRETCH_BYTES: usize = CONTENT_BYTES / 5;
+// A content is summed in stretches: each so few bytes that the compiler makes their weights constants, and vectors of them.
+const STRETCHES: usize = 5;
+
+const STRETCH_BYTES: usize = CONTENT_BYTES / STRETCHES;
 
 // A content byte times its weight.
 fn weighed(content: &[u8], i: usize) -> u32
@@ -29,10 +31,8 @@ fn stretch_sum(content: &[u8], from: usize, end: usize) -> u32
     ensures { weighted 1 (take from content.now) + result ≡ weighted 1 (take end content.now) }
 {
     let mut sum = 0;
-    let mut i = from;
-    while i < end {
+    for i in from..end {
         sum += weighed(content, i);
-        i += 1;
     }
     sum
 }
@@ -43,10 +43,9 @@ fn weighed_sum(content: &[u8]) -> u32
     ensures { result ≡ weighted 1 content.now }
 {
     let mut sum = 0;
-    let mut from = 0;
-    while from < CONTENT_BYTES {
+    for stretch in 0..STRETCHES {
+        let from = STRETCH_BYTES * stretch;
         sum += stretch_sum(content, from, from + STRETCH_BYTES);
-        from += STRETCH_BYTES;
     }
     sum
 }
@@ -87,43 +86,36 @@ pub fn block(sheet: &[u8], k: usize) -> &[u8]
 }
 
 // Refusal 2: the lowest block whose check is wrong.
-fn checks(sheet: &[u8]) -> Reading
+fn checks(sheet: &[u8]) -> Result<(), Refused>
     ensures { said_of result ≡ checks_refusal sheet.now }
 {
-    let n = sheet.len() / BLOCK_BYTES;
-    let mut k = 0;
-    while k < n {
+    for k in 0..sheet.len() / BLOCK_BYTES {
         if !block_right(sheet, k) {
-            return Reading::Refused(Refusal {
-                number: 2,
+            return Err(Refused {
+                cause: Cause::Check,
                 place: k,
             });
         }
-        k += 1;
     }
-    Reading::Accepted
+    Ok(())
+}
+
+// Whether so many bytes are whole blocks, some, and no more than the longest sheet has.
+#[tactic(auto, unfolding(crate::specs::Early::length_right))]
+fn length_right(n: usize) -> bool
+    ensures { result ≡ length_right most_nodes n }
+{
+    n != 0 && n % BLOCK_BYTES == 0 && n <= MOST_SHEET_BYTES
 }
 
 // Refusals 1 and 2.
-pub fn read_blocks(sheet: &[u8]) -> Reading
+#[tactic(auto, unfolding(crate::specs::Early::early))]
+pub fn read_blocks(sheet: &[u8]) -> Result<(), Refused>
     ensures { said_of result ≡ early most_nodes sheet.now }
 {
-    let n = sheet.len();
-    if n == 0 {
-        return Reading::Refused(Refusal {
-            number: 1,
-            place: 0,
-        });
-    }
-    if n % BLOCK_BYTES != 0 {
-        return Reading::Refused(Refusal {
-            number: 1,
-            place: 0,
-        });
-    }
-    if MOST_SHEET_BYTES < n {
-        return Reading::Refused(Refusal {
-            number: 1,
+    if !length_right(sheet.len()) {
+        return Err(Refused {
+            cause: Cause::Length,
             place: 0,
         });
     }

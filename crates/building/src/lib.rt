@@ -30,33 +30,29 @@ fn kind_at(text: &[u8], at: usize, end: usize) -> Kind
     words::kind_named(&text[at..end])
 }
 
-// The record of a number.
-fn constant(word: &[u8]) -> Record
-    requires { is_number word.now ≡ true }
-    ensures { result ≡ node Kind.Constant 0 0 0 (enc 16 (number_of word.now)) }
-{
-    Record {
-        kind: Kind::Constant,
-        a: 0,
-        b: 0,
-        c: 0,
-        value: sheets::bits(words::number_of(word)),
-        spare: 0,
-    }
-}
-
 // The record of a kind with its operands.
 fn operator(kind: Kind, a: usize, b: usize, c: usize) -> Record
     requires { (a < word_limit) × (b < word_limit) × (c < word_limit) }
     ensures { result ≡ node kind a b c 0 }
 {
     Record {
-        kind: kind,
+        kind,
         a: a as u16,
         b: b as u16,
         c: c as u16,
         value: 0,
         spare: 0,
+    }
+}
+
+// The record of a number.
+fn constant(word: &[u8]) -> Record
+    requires { is_number word.now ≡ true }
+    ensures { result ≡ node Kind.Constant 0 0 0 (enc 16 (number_of word.now)) }
+{
+    Record {
+        value: sheets::bits(words::number_of(word)),
+        ..operator(Kind::Constant, 0, 0, 0)
     }
 }
 
@@ -92,7 +88,7 @@ fn put(sheet: &mut [u8], fields: Record, node: usize, end: usize) -> Built
 {
     sheets::put_node(sheet, NodeNumber(node as u16), fields);
     Built {
-        end: end,
+        end,
         next: node + 1,
     }
 }
@@ -108,14 +104,7 @@ pub fn build(text: &[u8], count: usize, at: usize, sheet: &mut [u8], node: usize
     match kinds::shape_of(kind) {
         Shape::Wrong => put(sheet, leaf_at(text, count, at, end), node, end),
         Shape::Bare => put(sheet, operator(kind, 0, 0, 0), node, end),
-        Shape::Valued => Built {
-            end: end,
-            next: node,
-        },
-        Shape::Named => Built {
-            end: end,
-            next: node,
-        },
+        Shape::Valued | Shape::Named => Built { end, next: node },
         Shape::One(_) => one(text, count, kind, end + 1, sheet, node),
         Shape::Two(_, _) => two(text, count, kind, end + 1, sheet, node),
         Shape::Three(_, _, _) => three(text, count, kind, end + 1, sheet, node),

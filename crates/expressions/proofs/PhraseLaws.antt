@@ -140,6 +140,19 @@ module _ {s : List ℕ} {n : ℕ} (ok : AcceptedNode s n) {r : Record} (er : r �
   unfolding word_at
   node-word eg = rw (sym eg ∙ as-shape, er)
 
+  -- of all but a constant and a variable, the word of the kind
+  plain-by : (g : Shape) → h ≡ g → ¬ (h ≡ Valued) → ¬ (h ≡ Named) → word_at s n ≡ (row r.kind).plain
+  plain-by Wrong e v w = node-word e
+  plain-by Bare e v w = node-word e
+  plain-by Valued e v w = absurd (v e)
+  plain-by Named e v w = absurd (w e)
+  plain-by (One x) e v w = node-word e
+  plain-by (Two x y) e v w = node-word e
+  plain-by (Three x y z) e v w = node-word e
+
+  pub plain-word : ¬ (h ≡ Valued) → ¬ (h ≡ Named) → word_at s n ≡ (row r.kind).plain
+  plain-word v w = plain-by h refl v w
+
   operands-before : {g : Shape} → h ≡ g → Before n (operands_of g r)
   operands-before eg = rw (sym eg ∙ as-shape, er) (lower (placed ok))
 

@@ -29,8 +29,7 @@ pub fn put_name(sheet: &[u8], n: VariableNumber, room: &mut [u8], at: usize) -> 
     requires { AcceptedVariable sheet.now n.0 × (at + length (variable_at sheet.now n.0).name ≤ length room.old) }
     ensures { Wrote (variable_at sheet.now n.0).name room.old room.new at result }
 {
-    let name = name_of(sheet, n);
-    room::put(room, at, name)
+    room::put(room, at, name_of(sheet, n))
 }
 
 // The length of a variable's name.
@@ -38,8 +37,7 @@ pub fn name_len(sheet: &[u8], n: VariableNumber) -> usize
     requires { AcceptedVariable sheet.now n.0 }
     ensures { result ≡ length (variable_at sheet.now n.0).name }
 {
-    let name = name_of(sheet, n);
-    name.len()
+    name_of(sheet, n).len()
 }
 
 // The text of a node, to the front of the room; its bytes.
@@ -115,13 +113,9 @@ fn own_len(sheet: &[u8], node: NodeNumber) -> usize
     let fields = records::record_at(sheet, node);
     let kind = fields.kind;
     match kinds::shape_of(kind) {
-        Shape::Wrong => spelling::word_len(kind),
-        Shape::Bare => spelling::word_len(kind),
         Shape::Valued => spelling::value_len(fields.value),
         Shape::Named => name_len(sheet, VariableNumber(fields.a)),
-        Shape::One(_) => spelling::word_len(kind),
-        Shape::Two(_, _) => spelling::word_len(kind),
-        Shape::Three(_, _, _) => spelling::word_len(kind),
+        _ => spelling::word_len(kind),
     }
 }
 
@@ -131,10 +125,8 @@ pub fn words_len(sheet: &[u8], count: usize) -> usize
     ensures { result ≡ words_bytes sheet.now count }
 {
     let mut size = 0;
-    let mut i: usize = 0;
-    while i < count {
-        size += own_len(sheet, NodeNumber(i as u16)) + 1;
-        i += 1;
+    for i in 0..count as u16 {
+        size += own_len(sheet, NodeNumber(i)) + 1;
     }
     size
 }

@@ -1,3 +1,2 @@
 pub mod FindingLaws
-pub mod PackedLaws
 pub mod SoundFindings

@@ -1,3 +1,3 @@
 pub mod Findings
 pub mod Steps
-pub mod Packed
+pub mod Kept

@@ -1,5 +1,5 @@
 -- Follows the code: the test of operands' sorts, which the cascade uses, and the answer at a node, which contracts cite; rows and statements do without.
-use Rattle.std.specs.Prelude.{ℕ, ◌<◌, Bool, true, false, ◌&&◌, List, [], ◌∷◌}
+use Rattle.std.specs.Prelude.{ℕ, ◌<◌, Bool, true, false, ◌&&◌, List, [], ◌∷◌, Result, Ok, Err}
 use Rattle.numbers.specs.declared.Range.{Range}
 use Rattle.meaning.specs.declared.Sort.{Sort}
 use Rattle.meaning.specs.declared.Sort.TheVariants.{Truth as truth, Integer as integer}
@@ -10,11 +10,15 @@ use Rattle.layout.specs.Limits.{most_nodes}
 use Rattle.layout.specs.Starts.{shape_at, operands_of, sorts_of}
 use Rattle.layout.specs.Fold.{found_by}
 use Rattle.findings.specs.declared.Finding.{Finding}
-use Rattle.findings.specs.declared.Operand.{Operand}
-use Rattle.findings.specs.declared.Operand.TheVariants.{Wrong, Right}
-use Rattle.findings.specs.declared.Step.{Step}
-use Rattle.findings.specs.declared.Step.TheVariants.{Good, Bad}
+use Rattle.refusals.specs.declared.Cause.{Cause}
 use Rattle.findings.specs.Findings.{sort_of, no_range, range_of, result_of, finding_of, finding_fits}
+
+-- what a node is found to be, or the cause of its refusal; and an operand's range, or the cause where it is of the wrong sort
+abbrev pub Step : Type 0
+Step = Result Finding Cause
+
+abbrev pub Operand : Type 0
+Operand = Result Range Cause
 
 abbrev pub same_sort : Sort → Sort → Bool
 same_sort truth truth = true
@@ -30,23 +34,23 @@ are_sorted so (x ∷ xs) (s ∷ ss) = same_sort (so x) s && are_sorted so xs ss
 
 -- a finding that fits 16 bits, else refusal 8
 abbrev pub fitted : Finding → Step
-fitted x = elim (finding_fits x) [ true ↦ Good x | false ↦ Bad 8 ]
+fitted x = elim (finding_fits x) [ true ↦ Ok x | false ↦ Err Cause.Range ]
 
 -- at a node with the record r, where g has the findings of the nodes before it: refusal 7 for an operand of the wrong sort, then 8
 unfoldable pub step_of : (ℕ → Range) → Record → (ℕ → Finding) → Step
 step_of δ r g =
     elim (are_sorted (λ j. sort_of (g j)) (operands_of (shape_at r) r) (sorts_of (shape_at r))) [
       | true ↦ fitted (finding_of δ r.kind (found_by (shape_at r) r g))
-      | false ↦ Bad 7
+      | false ↦ Err Cause.Sort
     ]
 
 -- an operand of the sort asked for goes on with its range, another is refusal 7
 abbrev pub operand_of : Finding → Sort → Operand
-operand_of f s = elim (same_sort (sort_of f) s) [ true ↦ Right (range_of f) | false ↦ Wrong ]
+operand_of f s = elim (same_sort (sort_of f) s) [ true ↦ Ok (range_of f) | false ↦ Err Cause.Sort ]
 
 abbrev pub go_on : Operand → (Range → Step) → Step
-go_on Wrong next = Bad 7
-go_on (Right p) next = next p
+go_on (Err e) next = Err e
+go_on (Ok p) next = next p
 
 -- by the number of operands
 unfoldable pub one_step : Kind → Sort → Finding → Step

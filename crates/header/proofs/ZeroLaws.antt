@@ -1,15 +1,21 @@
 -- Laws of `zeros`: what the test says of each byte, and the turns of a loop. Assumes nothing.
-use Prim.Native.Nat.{ℕ, ◌+◌, ◌-◌, ◌≤◌, ◌<◌}
-use mathlib.Core.Path.{◌≡◌, sym, ap, ◌∙◌}
-use mathlib.Core.Bool.{true, false}
+use Prim.Native.Nat.{ℕ, zero, suc, ◌+◌, ◌-◌, ◌≤◌, ◌<◌}
+use mathlib.Core.Path.{◌≡◌, refl, ap, ◌∙◌}
+use mathlib.Core.Bool.{Bool, true, false, ◌&&◌}
 use mathlib.Core.List.{List}
 use native.Mathlib.Omega.{arith}
 use borrow.Author.Tests.{eq-eqb, ne_eqb, eqb-true, eqb-false}
+use lib.Dec.{eqb}
+use lib.ListN.{length, take, drop, length-drop}
+use lib.Seq.{take-suc, get_or-drop}
+use Rattle.std.specs.List.{list_all}
+use Rattle.std.proofs.lemmas.List.Folds.{list_all-append}
+use Rattle.lists.specs.Places.{all_below}
 use Rattle.lists.proofs.TestLaws.{all_true, all_of}
 use Rattle.numbers.specs.Bytes.{byte_at}
 use Rattle.layout.specs.LaidOut.{Zeros}
 use Rattle.header.specs.Header.{zeros}
-use Rattle.lists.proofs.BelowLaws.{all_pass, all-stop, lowest-of}
+use Rattle.lists.proofs.BelowLaws.{all-stop, lowest-of}
 
 module _ (s : List ℕ) (i n : ℕ) where
   pub zeros-at : zeros s i n ≡ true → Zeros s i n
@@ -43,10 +49,17 @@ module _ (s : List ℕ) (i n : ℕ) where
       let e : p ≡ i + (p - i) = omega arith in
       ap (byte_at s) e ∙ h (p - i) (omega arith)
 
-  -- the turns of a loop
-  pub zeros-pass : zeros s i n ≡ true → byte_at s (i + n) ≡ 0 → zeros s i (n + 1) ≡ true
-  unfolding zeros
-  zeros-pass e h = all_pass _ n e (eq-eqb _ _ h)
+-- from the front on, as a chain of tests has them
+swapped : (a b : Bool) → a && b ≡ b && (a && true)
+swapped true true = refl
+swapped true false = refl
+swapped false true = refl
+swapped false false = refl
 
-  pub zeros-done : {k : ℕ} → zeros s i k ≡ true → k ≤ n → n ≤ k → true ≡ zeros s i n
-  zeros-done {k} e l h = let p : n ≡ k = omega arith in rw p (sym e)
+pub zeros_all : (s : List ℕ) (i n : ℕ) → i + n ≤ length s → zeros s i n ≡ list_all (λ b. eqb b 0) (take n (drop i s))
+unfolding zeros all_below
+zeros_all s i zero h = refl
+zeros_all s i (suc n) h =
+    let inside : n < length (drop i s) = rw length-drop (omega arith) in
+    rw (take-suc (drop i s) n 0 inside, list_all-append, get_or-drop)
+    (rw (← zeros_all s i n (omega arith)) (swapped (eqb (byte_at s (i + n)) 0) (zeros s i n)))

@@ -1,7 +1,8 @@
 // The header of a sheet: its counts, the bytes outside the records, and refusals 3 and 4.
 #![tactic(auto)]
 
-ghost use Rattle.std.specs.Prelude.{◌≡◌, ◌+◌, ◌*◌, ◌≤◌, ◌<◌, length};
+ghost use Rattle.std.specs.Prelude.{◌≡◌, ◌+◌, ◌*◌, ◌≤◌, ◌<◌, ◌==◌, length};
+ghost use Rattle.std.specs.List.{list_all};
 ghost use Rattle.layout.specs.Limits.{block_bytes, content_bytes, most_variables, most_nodes, sheet_bytes, most_blocks};
 ghost use Rattle.layout.specs.Parts.{node_count, variable_count};
 ghost use Rattle.refusals.specs.Said.{said_of};
@@ -12,7 +13,7 @@ use layout::{
     MOST_NODES, MOST_VARIABLES, NODE_BYTES, NODE_COUNT_OFFSET, NODES_IN_BLOCK, VARIABLE_BYTES,
     VARIABLE_COUNT_OFFSET,
 };
-use refusals::{Reading, Refusal};
+use refusals::{Cause, Refused};
 
 // N, the number of nodes.
 pub fn node_count(sheet: &[u8]) -> usize
@@ -30,38 +31,34 @@ pub fn variable_count(sheet: &[u8]) -> usize
     numbers::byte_at(sheet, VARIABLE_COUNT_OFFSET) as usize
 }
 
+// Whether all of these bytes are zero.
+fn all_zero(bytes: &[u8]) -> bool
+    ensures { result ≡ list_all (λ b. b == 0) bytes.now }
+{
+    bytes.iter().all(|byte| *byte == 0)
+}
+
 // Whether n bytes from a place on are zero.
+#[tactic(auto, using(crate::proofs::ZeroLaws::zeros_all))]
 pub fn clear(sheet: &[u8], at: usize, n: usize) -> bool
     requires { at + n ≤ length sheet.now }
     ensures { result ≡ zeros sheet.now at n }
 {
-    let mut i = 0;
-    while i < n {
-        if sheet[at + i] != 0 {
-            return false;
-        }
-        i += 1;
-    }
-    true
+    all_zero(&sheet[at..at + n])
 }
 
 // Whether the counts and the length keep their rules.
+#[tactic(auto, unfolding(crate::specs::Header::counts_right))]
 fn counts_right(sheet: &[u8]) -> bool
     requires { block_bytes ≤ length sheet.now }
     ensures { result ≡ counts_right most_nodes sheet.now }
 {
     let n = node_count(sheet);
     let v = variable_count(sheet);
-    if n < 1 {
-        return false;
-    }
-    if MOST_NODES < n {
-        return false;
-    }
-    if MOST_VARIABLES < v {
-        return false;
-    }
-    sheet.len() == BLOCK_BYTES * ((n + (NODES_IN_BLOCK - 1)) / NODES_IN_BLOCK + 1)
+    1 <= n
+        && n <= MOST_NODES
+        && v <= MOST_VARIABLES
+        && sheet.len() == BLOCK_BYTES * ((n + (NODES_IN_BLOCK - 1)) / NODES_IN_BLOCK + 1)
 }
 
 // Where the used bytes of block k end.
@@ -100,39 +97,30 @@ fn outside_clear(sheet: &[u8]) -> bool
     if !clear(sheet, HEADER_GAP, HEADER_GAP_BYTES) {
         return false;
     }
-    let n = sheet.len() / BLOCK_BYTES;
-    let mut k = 0;
-    while k < n {
+    for k in 0..sheet.len() / BLOCK_BYTES {
         if !tail_clear(sheet, k) {
             return false;
         }
-        k += 1;
     }
     true
 }
 
 // Refusals 3 and 4.
-pub fn read_header(sheet: &[u8]) -> Reading
+pub fn read_header(sheet: &[u8]) -> Result<(), Refused>
     requires { block_bytes ≤ length sheet.now }
     ensures { said_of result ≡ header most_nodes sheet.now }
 {
     if numbers::u16_at(sheet, EDITION_OFFSET) != 1 {
-        return Reading::Refused(Refusal {
-            number: 3,
+        return Err(Refused {
+            cause: Cause::Edition,
             place: 0,
         });
     }
-    if !counts_right(sheet) {
-        return Reading::Refused(Refusal {
-            number: 4,
+    if !counts_right(sheet) || !outside_clear(sheet) {
+        return Err(Refused {
+            cause: Cause::Counts,
             place: 0,
         });
     }
-    if !outside_clear(sheet) {
-        return Reading::Refused(Refusal {
-            number: 4,
-            place: 0,
-        });
-    }
-    Reading::Accepted
+    Ok(())
 }

@@ -3,7 +3,7 @@ use Prim.Native.Nat.{ℕ, ◌<◌}
 use mathlib.Core.Path.{◌≡◌, refl, sym, ap, ◌∙◌}
 use mathlib.Core.Bool.{Bool, true, false, cond, ◌&&◌}
 use mathlib.Core.List.{List, [], ◌∷◌}
-use borrow.Author.Tests.{eqb-true, ne_eqb, ltb-true}
+use borrow.Author.Tests.{eqb-true, ltb-true}
 use lib.Dec.{eqb, ltb}
 use Rattle.lists.proofs.TestLaws.{both}
 use Rattle.kinds.specs.declared.Kind.{Kind}
@@ -73,35 +73,6 @@ kind-byte b q = find-byte kinds b q
 -- a kind's byte is one
 pub byte_small : (k : Kind) → (row k).byte < 256
 byte_small k = ltb-true _ _ (passes (λ j. ltb (row j).byte 256) refl k)
-
--- ---- what an arm of the code gives
-
--- by the byte that it names
-pub named : {b n : ℕ} {k : Kind} → b ≡ n → k ≡ kind_of n → k ≡ kind_of b
-named e d = rw e d
-
--- or by none of these kinds' bytes, after what is known before
-abbrev pub NoneOf : Type 0 → List Kind → ℕ → Type 0
-NoneOf before [] b = before
-NoneOf before (k ∷ ks) b = NoneOf (before × ¬ (b ≡ (row k).byte)) ks b
-
-none_found : (before : Type 0) (ks : List Kind) (b : ℕ) → NoneOf before ks b → before × (find ks b ≡ Kind.Unknown)
-unfolding find
-none_found before [] b h = (h, refl)
-none_found before (k ∷ ks) b h =
-    let r = none_found (before × ¬ (b ≡ (row k).byte)) ks b h in
-    (r.0.0, rw (ne_eqb b (row k).byte r.0.1) r.1)
-
-pub unnamed : {b : ℕ} → NoneOf (Unit {0}) kinds b → Kind.Unknown ≡ kind_of b
-unfolding kind_of
-unnamed {b} h = sym (none_found (Unit {0}) kinds b h).1
-
--- by the kind
-pub shaped : {k j : Kind} {h : Shape} → k ≡ j → h ≡ (row j).shape → h ≡ (row k).shape
-shaped e d = rw e d
-
-pub byted : {k j : Kind} {b : ℕ} → k ≡ j → b ≡ (row j).byte → b ≡ (row k).byte
-byted e d = rw e d
 
 -- ---- only a constant has a value, and only a variable names one
 abbrev leaf_bytes : Shape → ℕ → Bool

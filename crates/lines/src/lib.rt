@@ -55,10 +55,8 @@ pub fn declarations(room: &mut [u8], at: usize, count: usize) -> usize
     ensures { Wrote (joined_below declaration_line count) room.old room.new at result }
 {
     let mut next = at;
-    let mut i: usize = 0;
-    while i < count {
-        next = declaration(room, next, VariableNumber(i as u16));
-        i += 1;
+    for i in 0..count as u16 {
+        next = declaration(room, next, VariableNumber(i));
     }
     next
 }
@@ -112,10 +110,8 @@ pub fn range_lines(sheet: &[u8], room: &mut [u8], at: usize, count: usize) -> us
     ensures { Wrote (joined_below (range_line sheet.now) count) room.old room.new at result }
 {
     let mut next = at;
-    let mut variable: usize = 0;
-    while variable < count {
-        next = range_line(sheet, room, next, VariableNumber(variable as u16));
-        variable += 1;
+    for variable in 0..count as u16 {
+        next = range_line(sheet, room, next, VariableNumber(variable));
     }
     next
 }
@@ -126,10 +122,8 @@ fn further_symbols(room: &mut [u8], at: usize, others: usize) -> usize
     ensures { Wrote (joined_below further_symbol others) room.old room.new at result }
 {
     let mut next = at;
-    let mut i: usize = 0;
-    while i < others {
-        i += 1;
-        next = spaced_symbol(room, next, VariableNumber(i as u16));
+    for i in 0..others as u16 {
+        next = spaced_symbol(room, next, VariableNumber(i + 1));
     }
     next
 }
@@ -161,10 +155,8 @@ pub fn variables_len(count: usize) -> usize
     ensures { LinesSize count result }
 {
     let mut size = 0;
-    let mut i: usize = 0;
-    while i < count {
-        size += lines_len(VariableNumber(i as u16));
-        i += 1;
+    for i in 0..count as u16 {
+        size += lines_len(VariableNumber(i));
     }
     size
 }
@@ -175,10 +167,8 @@ fn further_len(others: usize) -> usize
     ensures { result ≡ length (joined_below further_symbol others) }
 {
     let mut size = 0;
-    let mut i: usize = 0;
-    while i < others {
-        i += 1;
-        size += BLANK.len() + pieces::symbol_len(VariableNumber(i as u16));
+    for i in 0..others as u16 {
+        size += BLANK.len() + pieces::symbol_len(VariableNumber(i + 1));
     }
     size
 }

@@ -1,6 +1,6 @@
 -- What `make` answers, way by way: bytes that are no text, too much for a sheet, a sheet that is refused, a room that is too short, and the sheet. Assumes nothing.
 use Prim.Native.Nat.{ℕ, ◌≤◌, ◌<◌}
-use mathlib.Core.Path.{◌≡◌, sym, ap, subst, ◌∙◌}
+use mathlib.Core.Path.{◌≡◌, refl, sym, ap, subst, ◌∙◌}
 use mathlib.Core.Bool.{false, ◌&&◌, and-false}
 use mathlib.Core.List.{List, []}
 use mathlib.Core.Option.{none, some}
@@ -11,9 +11,10 @@ use lib.ListN.{length, replicate}
 use Rattle.lists.proofs.FirstLaws.{otherwise-none, otherwise-some}
 use Rattle.lists.proofs.TestLaws.{and}
 use Rattle.refusals.specs.declared.Refusal.{Refusal}
-use Rattle.refusals.specs.declared.Reading.{Reading}
-use Rattle.refusals.specs.declared.Reading.TheVariants.{Accepted, Refused as refused}
-use Rattle.refusals.specs.Said.{said_of}
+use Rattle.std.specs.Prelude.{Result, Ok, Err}
+use Rattle.refusals.specs.declared.Cause.TheVariants.{Counts as counts, Room, Text as no_text}
+use Rattle.refusals.specs.declared.Refused.{Refused}
+use Rattle.refusals.specs.Causes.{refusal_of as told}
 use Rattle.refusals.proofs.SaidLaws.{unless-true, unless-false}
 use Rattle.refusals.proofs.AfterLaws.{passes, stops}
 use Rattle.layout.specs.Limits.{most_variables, most_nodes}
@@ -22,32 +23,25 @@ use Rattle.grammar.specs.Begins.{Leaves}
 use Rattle.grammar.proofs.BeginLaws.{no_member, one_place}
 use Rattle.room.specs.Room.{Wrote}
 use Rattle.room.proofs.WrittenLaws.{fills-refused, fills-done}
-use Rattle.room.specs.declared.Written.{Written}
-use Rattle.room.specs.declared.Written.TheVariants.{Done, Refused}
 use Rattle.room.specs.Written.{Fills}
 use Rattle.texts.specs.Expressions.{records_of, Draft, draft_sheet}
 use Rattle.texts.specs.Texts.{Says, Text}
-use Rattle.scan.specs.declared.Scanned.{Scanned}
-use Rattle.scan.specs.declared.Scanned.TheVariants.{Whole, Stopped}
 use Rattle.scan.specs.Scanned.{ScanSays}
 use Rattle.maker.specs.Makes.{draft_refusal, Makes}
 use Rattle.maker.specs.Lays.{Counts, SheetReady, sheet_refusal, Lays}
 use Rattle.maker.proofs.LayLaws.{variables-are, nodes-are}
 
 -- ---- a sheet
-pub sheet-accepted : (s : List ℕ) {a : Reading} → said_of a ≡ refusal_of most_nodes s → a ≡ Accepted → refusal_of most_nodes s ≡ none
-sheet-accepted s e d = sym e ∙ ap said_of d
-
-pub sheet-refused : (s before : List ℕ) {a : Reading} {r : Refusal} → said_of a ≡ refusal_of most_nodes s → a ≡ refused r → Fills (sheet_refusal most_nodes s (length before)) s before (Refused r) before
+pub sheet-refused : (s before : List ℕ) {a : Result ℕ Refused} {e : Refused} → a ≡ Err e → some (told e) ≡ refusal_of most_nodes s → Fills (sheet_refusal most_nodes s (length before)) s before a before
 unfolding sheet_refusal
-sheet-refused s before e d = fills-refused s before (otherwise-some _ (sym e ∙ ap said_of d))
+sheet-refused s before p d = fills-refused s before p (otherwise-some _ (sym d))
 
 module _ (s : List ℕ) (ok : refusal_of most_nodes s ≡ none) where
-  pub room-short : (before : List ℕ) → length before < length s → Fills (sheet_refusal most_nodes s (length before)) s before (Refused (record { number = 9; place = length s })) before
+  pub room-short : (before : List ℕ) → length before < length s → Fills (sheet_refusal most_nodes s (length before)) s before (Err (record { cause = Room; place = length s })) before
   unfolding sheet_refusal
-  room-short before l = fills-refused s before (stops (length s) (length before) 9 _ ok l)
+  room-short before l = fills-refused s before refl (stops (length s) (length before) 9 _ ok l)
 
-  pub sheet-written : {before after : List ℕ} {n : ℕ} → length s ≤ length before → Wrote s before after 0 n → Fills (sheet_refusal most_nodes s (length before)) s before (Done n) after
+  pub sheet-written : {before after : List ℕ} {n : ℕ} → length s ≤ length before → Wrote s before after 0 n → Fills (sheet_refusal most_nodes s (length before)) s before (Ok n) after
   unfolding sheet_refusal
   sheet-written {before} l w = fills-done (passes (length s) (length before) 9 _ ok l) w
 
@@ -61,7 +55,7 @@ module _ (d : Draft) (few : length d.variables ≤ most_variables) (most : lengt
   unfolding draft_refusal sheet_refusal
   within-limits room = otherwise-none _ (unless-true 4 0 (and (le-leb (length d.variables) most_variables few) (le-leb (length (records_of d.goal 0)) most_nodes most)))
 
-pub sheet-makes : {text : List ℕ} {variables nodes size : ℕ} → SheetReady text variables nodes size → {s z before after : List ℕ} {a : Written} → s ≡ replicate (length s) 0 → Lays text s z
+pub sheet-makes : {text : List ℕ} {variables nodes size : ℕ} → SheetReady text variables nodes size → {s z before after : List ℕ} {a : Result ℕ Refused} → s ≡ replicate (length s) 0 → Lays text s z
     → Fills (sheet_refusal most_nodes z (length before)) z before a after → Makes most_nodes text before a after
 sheet-makes {text} r {s = s} {z = z} {before = before} {after = after} {a = a} e l f = record { off = λ p h. no-leaves r.counts.text h; said = every }
   where
@@ -71,26 +65,26 @@ sheet-makes {text} r {s = s} {z = z} {before = before} {after = after} {a = a} e
 
 -- too much for a sheet
 module _ {text : List ℕ} {variables nodes : ℕ} (c : Counts text variables nodes) (before : List ℕ) where
-  over : ((d : Draft) → Says text d → leb (length d.variables) most_variables && leb (length (records_of d.goal 0)) most_nodes ≡ false) → Makes most_nodes text before (Refused (record { number = 4; place = 0 })) before
+  over : ((d : Draft) → Says text d → leb (length d.variables) most_variables && leb (length (records_of d.goal 0)) most_nodes ≡ false) → Makes most_nodes text before (Err (record { cause = counts; place = 0 })) before
   unfolding draft_refusal
-  over f = record { off = λ p h. no-leaves c.text h; said = λ d h. fills-refused (draft_sheet d) before (otherwise-some _ (unless-false 4 0 (f d h))) }
+  over f = record { off = λ p h. no-leaves c.text h; said = λ d h. fills-refused (draft_sheet d) before refl (otherwise-some _ (unless-false 4 0 (f d h))) }
 
-  pub many-variables : most_variables < variables → Makes most_nodes text before (Refused (record { number = 4; place = 0 })) before
+  pub many-variables : most_variables < variables → Makes most_nodes text before (Err (record { cause = counts; place = 0 })) before
   many-variables l = over (λ d h. rw (lt-leb (length d.variables) most_variables (omega (arith, variables-are c h))))
 
-  pub many-nodes : most_nodes < nodes → Makes most_nodes text before (Refused (record { number = 4; place = 0 })) before
+  pub many-nodes : most_nodes < nodes → Makes most_nodes text before (Err (record { cause = counts; place = 0 })) before
   many-nodes l = over (λ d h. rw (lt-leb (length (records_of d.goal 0)) most_nodes (omega (arith, nodes-are c h)), and-false))
 
 -- bytes that are no text
-pub text-refused : {text : List ℕ} (before : List ℕ) {p : ℕ} → Leaves Text text p → Makes most_nodes text before (Refused (record { number = 18; place = p })) before
-text-refused {text} before {p} l = record {
-  off = λ q h. fills-refused [] before (ap (λ (n : ℕ). some (record { number = 18; place = n })) (one_place Text h l));
+pub text-refused : {text : List ℕ} (before : List ℕ) {p : ℕ} {a : Result ℕ Refused} → a ≡ Err (record { cause = no_text; place = p }) → Leaves Text text p → Makes most_nodes text before a before
+text-refused {text} before {p} e l = record {
+  off = λ q h. fills-refused [] before e (ap (λ (n : ℕ). some (record { number = 18; place = n })) (one_place Text h l));
   said = λ d h. absurd (no_member Text l (record { draft = d; says = h }));
 }
 
 -- by what the scan says
-pub scan-stopped : {text : List ℕ} {r : Scanned} {p : ℕ} → ScanSays text r → r ≡ Stopped p → Leaves Text text p
+pub scan-stopped : {text : List ℕ} {r : Result Unit ℕ} {p : ℕ} → ScanSays text r → r ≡ Err p → Leaves Text text p
 scan-stopped {text} h e = subst (ScanSays text) e h
 
-pub scan-whole : {text : List ℕ} {r : Scanned} → ScanSays text r → r ≡ Whole → Text text
+pub scan-whole : {text : List ℕ} {r : Result Unit ℕ} → ScanSays text r → r ≡ Ok tt → Text text
 scan-whole {text} h e = subst (ScanSays text) e h

@@ -14,9 +14,7 @@ ghost use Rattle.maker.specs.Lays.{between, variable_between, BetweenReady, Line
 
 use layout::{BLOCK_BYTES, MOST_NODES, MOST_SHEET_BYTES, MOST_VARIABLES, NODES_IN_BLOCK};
 use numbers::VariableNumber;
-use refusals::{Reading, Refusal};
-use room::Written;
-use scan::Scanned;
+use refusals::{Cause, Refused};
 
 // The bytes before a line's name and before the goal's expression: a word and a space.
 const NAME_START: usize = 4;
@@ -63,10 +61,8 @@ fn put_variables(text: &[u8], count: usize, sheet: &mut [u8]) -> usize
     ensures { LinesPut text.now count sheet.old result sheet.new }
 {
     let mut at = 0;
-    let mut i = 0;
-    while i < count {
+    for i in 0..count {
         at = put_line(text, at, sheet, i);
-        i += 1;
     }
     at
 }
@@ -83,27 +79,25 @@ fn lay(text: &[u8], variables: usize, nodes: usize, sheet: &mut [u8])
 }
 
 // An accepted sheet to the front of the room, or refusal 9 at its bytes.
-fn deliver_accepted(sheet: &[u8], room: &mut [u8]) -> Written
+fn deliver_accepted(sheet: &[u8], room: &mut [u8]) -> Result<usize, Refused>
     requires { refusal_of most_nodes sheet.now ≡ none }
     ensures { Fills (sheet_refusal most_nodes sheet.now (length room.old)) sheet.now room.old result room.new }
 {
     if room.len() < sheet.len() {
-        return Written::Refused(Refusal {
-            number: 9,
+        return Err(Refused {
+            cause: Cause::Room,
             place: sheet.len(),
         });
     }
-    Written::Done(room::put(room, 0, sheet))
+    Ok(room::put(room, 0, sheet))
 }
 
 // A sheet to the front of the room, or its refusal, or 9.
-fn deliver(sheet: &[u8], room: &mut [u8]) -> Written
+fn deliver(sheet: &[u8], room: &mut [u8]) -> Result<usize, Refused>
     ensures { Fills (sheet_refusal most_nodes sheet.now (length room.old)) sheet.now room.old result room.new }
 {
-    match reading::read(sheet) {
-        Reading::Refused(refusal) => Written::Refused(refusal),
-        Reading::Accepted => deliver_accepted(sheet, room),
-    }
+    reading::read(sheet)?;
+    deliver_accepted(sheet, room)
 }
 
 // The sheet of a text, laid in a room of zeros, to the front of the other room.
@@ -113,7 +107,7 @@ fn make_in(
     nodes: usize,
     sheet: &mut [u8],
     room: &mut [u8],
-) -> Written
+) -> Result<usize, Refused>
     requires { SheetReady text.now variables nodes (length sheet.old) × (sheet.old ≡ replicate (length sheet.old) 0) }
     ensures { Makes most_nodes text.now room.old result room.new }
 {
@@ -130,7 +124,7 @@ fn sheet_size(nodes: usize) -> usize
 }
 
 // The sheet of a text within the limits.
-fn make_sheet(text: &[u8], variables: usize, nodes: usize, room: &mut [u8]) -> Written
+fn make_sheet(text: &[u8], variables: usize, nodes: usize, room: &mut [u8]) -> Result<usize, Refused>
     requires { Counts text.now variables nodes × (variables ≤ most_variables) × (nodes ≤ most_nodes) }
     ensures { Makes most_nodes text.now room.old result room.new }
 {
@@ -140,19 +134,13 @@ fn make_sheet(text: &[u8], variables: usize, nodes: usize, room: &mut [u8]) -> W
 }
 
 // The sheet of a text, or refusal 4 where a sheet can't have so much.
-fn make_counted(text: &[u8], variables: usize, nodes: usize, room: &mut [u8]) -> Written
+fn make_counted(text: &[u8], variables: usize, nodes: usize, room: &mut [u8]) -> Result<usize, Refused>
     requires { Counts text.now variables nodes }
     ensures { Makes most_nodes text.now room.old result room.new }
 {
-    if MOST_VARIABLES < variables {
-        return Written::Refused(Refusal {
-            number: 4,
-            place: 0,
-        });
-    }
-    if MOST_NODES < nodes {
-        return Written::Refused(Refusal {
-            number: 4,
+    if MOST_VARIABLES < variables || MOST_NODES < nodes {
+        return Err(Refused {
+            cause: Cause::Counts,
             place: 0,
         });
     }
@@ -160,7 +148,7 @@ fn make_counted(text: &[u8], variables: usize, nodes: usize, room: &mut [u8]) ->
 }
 
 // The sheet of a text: its lines are its variables' and the goal's, and a space stands before each node's word.
-fn make_whole(text: &[u8], room: &mut [u8]) -> Written
+fn make_whole(text: &[u8], room: &mut [u8]) -> Result<usize, Refused>
     requires { Text text.now }
     ensures { Makes most_nodes text.now room.old result room.new }
 {
@@ -170,14 +158,12 @@ fn make_whole(text: &[u8], room: &mut [u8]) -> Written
 }
 
 // The sheet to the front of the room; a refusal leaves the room untouched.
-pub fn make(text: &[u8], room: &mut [u8]) -> Written
+pub fn make(text: &[u8], room: &mut [u8]) -> Result<usize, Refused>
     ensures { Makes most_nodes text.now room.old result room.new }
 {
-    match scan::scan(text) {
-        Scanned::Stopped(place) => Written::Refused(Refusal {
-            number: 18,
-            place: place,
-        }),
-        Scanned::Whole => make_whole(text, room),
-    }
+    scan::scan(text).map_err(|place| Refused {
+        cause: Cause::Text,
+        place,
+    })?;
+    make_whole(text, room)
 }

@@ -1,7 +1,7 @@
 // What a node gives: a truth value or an integer. The rest of the crate is definitions: see specs/.
 #![tactic(auto)]
 
-#[derive(Clone, Copy)]
+#[derive(Clone, Copy, Debug, PartialEq, Eq)]
 pub enum Sort {
     Truth,
     Integer,

@@ -8,55 +8,59 @@ ghost use Rattle.header.specs.Header.{Counted};
 ghost use Rattle.findings.specs.Findings.{sort_of};
 ghost use Rattle.nodes.specs.Nodes.{nodes, goal_refusal};
 
-use findings::{Finding, Step};
+use findings::Finding;
+use findings::kept::Kept;
 use layout::MOST_NODES;
 use numbers::NodeNumber;
-use refusals::{Reading, Refusal};
+use refusals::{Cause, Refused};
 
 // What is answered where no node is refused: start is where the goal's subtree starts, f what the goal is found to be.
-fn read_goal(goal: NodeNumber, start: NodeNumber, f: Finding) -> Reading
+fn read_goal(goal: NodeNumber, start: NodeNumber, f: Finding) -> Result<(), Refused>
     ensures { said_of result ≡ goal_refusal start.0 (sort_of f) goal.0 }
 {
-    let place = goal.0 as usize;
+    let place = usize::from(goal.0);
     if start.0 != 0 {
-        return Reading::Refused(Refusal { number: 6, place });
+        return Err(Refused {
+            cause: Cause::Node,
+            place,
+        });
     }
-    let Finding::Truth = f else {
-        return Reading::Refused(Refusal { number: 7, place });
-    };
-    Reading::Accepted
+    match f {
+        Finding::Truth => Ok(()),
+        Finding::Integer(_) => Err(Refused {
+            cause: Cause::Sort,
+            place,
+        }),
+    }
 }
 
 // Refusals 6 to 8.
-pub fn read_nodes(sheet: &[u8]) -> Reading
+pub fn read_nodes(sheet: &[u8]) -> Result<(), Refused>
     requires { Counted most_nodes sheet.now }
     ensures { said_of result ≡ nodes sheet.now }
 {
     let n = header::node_count(sheet);
     let v = header::variable_count(sheet);
     let mut starts = [0u16; MOST_NODES];
-    let mut findings = [0u64; MOST_NODES];
-    let mut i: usize = 0;
-    while i < n {
+    let mut findings = [Kept {
+        finding: Finding::Truth,
+    }; MOST_NODES];
+    for i in 0..n {
         let node = NodeNumber(i as u16);
         let r = records::record_at(sheet, node);
         if !order::right_place(r, v, node, &starts) {
-            return Reading::Refused(Refusal {
-                number: 6,
+            return Err(Refused {
+                cause: Cause::Node,
                 place: i,
             });
         }
-        let step = findings::node_step(sheet, r, &findings);
-        match step {
-            Step::Bad(number) => {
-                return Reading::Refused(Refusal { number, place: i });
-            }
-            Step::Good(f) => {
-                starts[i] = order::start(r, node, &starts).0;
-                findings[i] = findings::packed(f);
-            }
-        }
-        i += 1;
+        // No `map_err` and `?`: the closure would take the place from the loop, and the proofs of both exits get longer for it.
+        let finding = match findings::node_step(sheet, r, &findings) {
+            Ok(finding) => finding,
+            Err(cause) => return Err(Refused { cause, place: i }),
+        };
+        starts[i] = order::start(r, node, &starts).0;
+        findings[i] = Kept { finding };
     }
     let goal = NodeNumber((n - 1) as u16);
     let start = order::start_of(goal, &starts);

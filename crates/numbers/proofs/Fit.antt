@@ -1,14 +1,16 @@
 -- What a signed operation asks of numbers in -32,768..32,767: that its result fits. `search fit` closes such a need with no path. Assumes nothing.
 use mathlib.Core.Path.{◌≡◌, ◌∙◌}
-use Prim.Native.Nat.{ℕ, ◌*◌, ◌≤◌, ◌<◌}
+use Prim.Native.Nat.{◌*◌, ◌≤◌, ◌<◌}
 use native.Mathlib.Nat.{mul-le-mul}
 use native.Mathlib.Omega.{arith}
 use lib.IntN.{ℤ, pos, negsuc, ◌+ℤ◌, ◌-ℤ◌, ◌*ℤ◌, +ℤ_idl}
 use mir.Syntax.{w16, w32}
 use mir.Val.{SFits, to_z, of_z}
-use mir.Facts.{sfits_widen, to_z-of_z, to_z_pos}
+use mir.Facts.{sfits_widen, to_z-of_z}
 use borrow.Author.Rules.{rules}
-use Rattle.numbers.specs.Ranges.{Narrow}
+use Rattle.std.specs.Int.{int_min, int_max}
+use Rattle.numbers.specs.Ranges.{Narrow, least_of, greatest_of}
+use Rattle.numbers.proofs.OrderTests.{least_is, greatest_is}
 use Rattle.numbers.proofs.Zed.{up, dn, zed, side, mag-ud, ud-mag, pos-ud, negsuc-ud, sum-ud, sub-ud, mul-ud}
 
 -- a number in the bounds by its two parts
@@ -50,18 +52,11 @@ product-fits {a} {b} m n =
     let dd : dn a * dn b ≤ 1073741824 = mul-le-mul (narrow-ud m).1 (narrow-ud n).1 in
     fits32 (a *ℤ b) (omega (arith, side (a *ℤ b), mul-ud a b))
 
+-- the library's least and greatest of two are the specification's
+pub least_told : (a b : ℤ) {r : ℤ} → SFits w32 a → SFits w32 b → r ≡ int_min (to_z w32 (of_z w32 a)) (to_z w32 (of_z w32 b)) → r ≡ least_of a b
+least_told a b f g e = e ∙ rw (to_z-of_z f, to_z-of_z g) (least_is a b)
+
+pub greatest_told : (a b : ℤ) {r : ℤ} → SFits w32 a → SFits w32 b → r ≡ int_max (to_z w32 (of_z w32 a)) (to_z w32 (of_z w32 b)) → r ≡ greatest_of a b
+greatest_told a b f g e = e ∙ rw (to_z-of_z f, to_z-of_z g) (greatest_is a b)
+
 pub ruleset fit = (rules, i16-fits, narrow-fits, sum_fits, difference-fits, minus-fits, product-fits, +ℤ_idl)
-
--- ---- `-(m as i16) - 1` is -(m + 1), step by step as the machine has it
-module _ (m : ℕ) (h : m < 32768) where
-  pub negated_fits : SFits w16 (pos 0 -ℤ to_z w16 m)
-  negated_fits = rw (to_z_pos w16 h) (i16-of-narrow (omega (zed, sub-ud (pos 0) (pos m), pos-ud 0, pos-ud m, pos-ud 32767, negsuc-ud 32767)))
-
-  less : (pos 0 -ℤ pos m) -ℤ pos 1 ≡ negsuc m
-  less = omega (zed, sub-ud (pos 0) (pos m), sub-ud (pos 0 -ℤ pos m) (pos 1), pos-ud 0, pos-ud 1, pos-ud m, negsuc-ud m)
-
-  pub one_less_fits : SFits w16 (to_z w16 (of_z w16 (pos 0 -ℤ to_z w16 m)) -ℤ pos 1)
-  one_less_fits = rw (to_z-of_z negated_fits, to_z_pos w16 h, less) (record { sfits = h })
-
-  pub one-less-is : to_z w16 (of_z w16 (to_z w16 (of_z w16 (pos 0 -ℤ to_z w16 m)) -ℤ pos 1)) ≡ negsuc m
-  one-less-is = to_z-of_z one_less_fits ∙ rw (to_z-of_z negated_fits, to_z_pos w16 h) less

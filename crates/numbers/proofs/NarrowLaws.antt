@@ -2,13 +2,22 @@
 use mathlib.Core.Path.{◌≡◌, refl, sym, ◌∙◌}
 use mathlib.Core.Bool.{Bool, true, false, true≢false, and-eq-true_iff}
 use lib.IntN.{ℤ, pos}
+use mir.Syntax.{w16}
+use mir.Val.{SFits}
+use Rattle.std.specs.Result.{OkIff, is_ok}
+use Rattle.std.proofs.Common.{Result, Ok, Err}
 use lib.Signed.{◌≤ℤ◌, le_z}
 use Rattle.numbers.specs.declared.Range.{Range}
 use Rattle.numbers.specs.Ranges.{least16, greatest16, Narrow, NarrowEnds, is_narrow, has_narrow_ends, In, Narrower, union_of}
 use Rattle.numbers.proofs.Zed.{≤ℤ-trans}
 use Rattle.numbers.proofs.OrderTests.{le_z-true, le-le_z}
+use Rattle.numbers.proofs.Fit.{narrow-of-i16, i16-of-narrow}
 use Rattle.numbers.proofs.Sound.{of-least, of-greatest}
 use Rattle.numbers.proofs.Monotone.{low-in, high-in, in-wider}
+
+false_of : (t : Bool) → (t ≡ true → ⊥) → t ≡ false
+false_of true f = absurd (f refl)
+false_of false f = refl
 
 -- ---- of a number
 pub zero-narrow : Narrow (pos 0)
@@ -27,6 +36,11 @@ is_narrow-of {z} e =
 pub is_narrow-false : {z : ℤ} → is_narrow z ≡ false → Narrow z → ⊥
 is_narrow-false e h = true≢false (sym (is_narrow-true h) ∙ e)
 
+-- whether it can be made an i16
+pub is_narrow_tried : {E : Type 0} (r : Result ℤ E) (z v : ℤ) → OkIff r (SFits w16 z) v → is_ok r ≡ is_narrow z
+is_narrow_tried (Ok x) z v h = sym (is_narrow-true (narrow-of-i16 h.0))
+is_narrow_tried (Err e) z v h = sym (false_of (is_narrow z) (λ t. h (i16-of-narrow (is_narrow-of t))))
+
 -- ---- of a range's ends
 pub narrow-true : {r : Range} → NarrowEnds r → has_narrow_ends r ≡ true
 unfolding has_narrow_ends
@@ -40,10 +54,6 @@ narrow-of {r} e =
 
 pub narrow-false : {r : Range} → has_narrow_ends r ≡ false → NarrowEnds r → ⊥
 narrow-false e h = true≢false (sym (narrow-true h) ∙ e)
-
-false_of : (t : Bool) → (t ≡ true → ⊥) → t ≡ false
-false_of true f = absurd (f refl)
-false_of false f = refl
 
 pub wide-false : (r : Range) → (NarrowEnds r → ⊥) → has_narrow_ends r ≡ false
 wide-false r f = false_of (has_narrow_ends r) (λ e. f (narrow-of e))

@@ -3,6 +3,9 @@ use mathlib.Core.Path.{◌≡◌, sym, subst}
 use mathlib.Core.Bool.{Bool, true, false, not}
 use lib.Dec.{T, not_T, lt→ltb, nleb→lt}
 use lib.IntN.{ℤ, pos, negsuc}
+use Rattle.std.specs.Int.{int_min, int_max}
+use Rattle.numbers.specs.Ranges.{least_of, greatest_of}
+use Rattle.std.proofs.lemmas.Int.{by_lt_z}
 use lib.Signed.{◌≤ℤ◌, ◌<ℤ◌, le_z, lt_z, le_z_yes, lt_z_yes, lt_z_no, clash_ℤ}
 use Rattle.lists.proofs.Decided.{Decides}
 use lib.Ieee.Bits.{is_true, is_false}
@@ -47,3 +50,12 @@ le-lt_z {a} {b} h = is_false (lt_z a b) (not_T (lt_z a b) (λ t. clash_ℤ (lt_z
 
 pub decides-le_z : (a b : ℤ) → Decides (le_z a b) (a ≤ℤ b)
 decides-le_z a b = (le_z-true, le-le_z)
+
+-- ---- the library's least and greatest of two
+pub least_is : (a b : ℤ) → int_min a b ≡ least_of a b
+unfolding least_of
+least_is a b = by_lt_z b a (λ h. simp (lt-lt_z h, lt-le_z h)) (λ h. simp (le-lt_z h, le-le_z h))
+
+pub greatest_is : (a b : ℤ) → int_max a b ≡ greatest_of a b
+unfolding greatest_of
+greatest_is a b = by_lt_z b a (λ h. simp (lt-lt_z h, lt-le_z h)) (λ h. simp (le-lt_z h, le-le_z h))

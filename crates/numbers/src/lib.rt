@@ -4,35 +4,28 @@
 ghost use Rattle.std.specs.Prelude.{◌≡◌, ◌+◌, ◌<◌, length};
 ghost use Rattle.numbers.specs.Two.{dec};
 ghost use Rattle.numbers.specs.Bytes.{byte_limit, byte_at, u16_at, i16_at};
-ghost use Rattle.numbers.specs.Ranges.{◌⋯◌, NarrowEnds, is_narrow, has_narrow_ends, least_of, greatest_of, minus_of, sum_of, difference_of, span_of, product_of, union_of};
+ghost use Rattle.numbers.specs.Ranges.{◌⋯◌, NarrowEnds, is_narrow, has_narrow_ends, minus_of, sum_of, difference_of, span_of, product_of, union_of};
 
 // The numbers of variables and of nodes: two types, so that neither passes for the other.
-#[derive(Clone, Copy)]
+#[derive(Clone, Copy, Debug, PartialEq, Eq, PartialOrd, Ord)]
 pub struct VariableNumber(pub u16);
 
-#[derive(Clone, Copy)]
+#[derive(Clone, Copy, Debug, PartialEq, Eq, PartialOrd, Ord)]
 pub struct NodeNumber(pub u16);
 
 // The integers from low to high.
-#[derive(Clone, Copy)]
+#[derive(Clone, Copy, Debug, PartialEq, Eq)]
 pub struct Range {
     pub low: i32,
     pub high: i32,
 }
-
-// How many numbers a byte can hold, and the ends of 16 bits.
-const BYTE_LIMIT: u16 = 256;
-
-const LEAST16: i32 = -32768;
-
-const GREATEST16: i32 = 32767;
 
 // A byte, as a wide number.
 pub fn byte_at(s: &[u8], at: usize) -> u16
     requires { at < length s.now }
     ensures { (result ≡ byte_at s.now at) × (result < byte_limit) }
 {
-    s[at] as u16
+    u16::from(s[at])
 }
 
 // The unsigned number in two bytes.
@@ -40,18 +33,15 @@ pub fn u16_at(s: &[u8], at: usize) -> u16
     requires { at + 1 < length s.now }
     ensures { result ≡ u16_at s.now at }
 {
-    byte_at(s, at) + BYTE_LIMIT * byte_at(s, at + 1)
+    u16::from_le_bytes([s[at], s[at + 1]])
 }
 
 // The number that 16 bits stand for in two's complement.
+#[tactic(auto, unfolding(crate::specs::Two::dec))]
 pub fn signed(n: u16) -> i16
     ensures { result ≡ dec 16 n }
 {
-    if n < 32768 {
-        n as i16
-    } else {
-        -((65535 - n) as i16) - 1
-    }
+    n.cast_signed()
 }
 
 // The signed number in two bytes.
@@ -67,21 +57,9 @@ pub fn range_of(low: i16, high: i16) -> Range
     ensures { result ≡ low ⋯ high }
 {
     Range {
-        low: low as i32,
-        high: high as i32,
+        low: i32::from(low),
+        high: i32::from(high),
     }
-}
-
-fn least(a: i32, b: i32) -> i32
-    ensures { result ≡ least_of a b }
-{
-    if a <= b { a } else { b }
-}
-
-fn greatest(a: i32, b: i32) -> i32
-    ensures { result ≡ greatest_of a b }
-{
-    if a <= b { b } else { a }
 }
 
 pub fn minus(a: Range) -> Range
@@ -119,8 +97,8 @@ fn span(p: i32, q: i32, r: i32, s: i32) -> Range
     ensures { result ≡ span_of p q r s }
 {
     Range {
-        low: least(least(p, q), least(r, s)),
-        high: greatest(greatest(p, q), greatest(r, s)),
+        low: p.min(q).min(r.min(s)),
+        high: p.max(q).max(r.max(s)),
     }
 }
 
@@ -141,18 +119,20 @@ pub fn union(a: Range, b: Range) -> Range
     ensures { result ≡ union_of a b }
 {
     Range {
-        low: least(a.low, b.low),
-        high: greatest(a.high, b.high),
+        low: a.low.min(b.low),
+        high: a.high.max(b.high),
     }
 }
 
+#[tactic(auto, using(crate::proofs::NarrowLaws::is_narrow_tried))]
 fn narrow(x: i32) -> bool
     ensures { result ≡ is_narrow x }
 {
-    LEAST16 <= x && x <= GREATEST16
+    i16::try_from(x).is_ok()
 }
 
 // Whether both ends have 16 bits.
+#[tactic(auto, unfolding(crate::specs::Ranges::has_narrow_ends))]
 pub fn fits16(a: Range) -> bool
     ensures { result ≡ has_narrow_ends a }
 {

@@ -5,7 +5,7 @@ use mathlib.Core.Bool.{Bool, true, false, false≢true}
 use mathlib.Core.List.{List, [], ◌∷◌}
 use native.Mathlib.Decide.{dec_lt}
 use native.Mathlib.Omega.{arith}
-use borrow.Author.Tests.{eqb-true, eq-eqb, ne_eqb, ltb-true, lt-ltb}
+use borrow.Author.Tests.{eqb-true, ltb-true, lt-ltb}
 use lib.Dec.{eqb}
 use Rattle.lists.specs.Course.{below}
 use Rattle.lists.proofs.CourseLaws.{below-is, below-past}
@@ -59,26 +59,6 @@ module _ (r : Record) (v n : ℕ) (st : ℕ → ℕ) where
       (λ w. record { known = w.0.0.0; clear = w.0.0.1; ordered = w.0.1; listed = w.1 })
       (λ k. (((k.known, k.clear), k.ordered), k.listed))
 
-  -- from the answers of the code's tests, in its order
-  module _ {h : Shape} (eh : h ≡ shape_at r) {k : Bool} (ek : k ≡ is_known h) where
-    pub by-known : k ≡ false → false ≡ rightly_placed r v n st
-    unfolding rightly_placed
-    by-known f = rw (← eh, ← ek, f)
-
-    module _ (pk : k ≡ true) {u : ℕ} (eu : u ≡ unused_of h r) where
-      pub by-clear : (u + r.spare ≡ 0 → ⊥) → false ≡ rightly_placed r v n st
-      unfolding rightly_placed
-      by-clear f = rw (← eh, ← ek, pk, ← eu, ne_eqb (u + r.spare) 0 f)
-
-      module _ (pu : u + r.spare ≡ 0) {o : Bool} (eo : o ≡ in_order st n (operands_of h r)) where
-        pub by_order : o ≡ false → false ≡ rightly_placed r v n st
-        unfolding rightly_placed
-        by_order f = rw (← eh, ← ek, pk, ← eu, eq-eqb (u + r.spare) 0 pu, ← eo, f)
-
-        pub by-list : o ≡ true → {l : Bool} → l ≡ is_listed h r v → l ≡ rightly_placed r v n st
-        unfolding rightly_placed
-        by-list po el = rw (← eh, ← ek, pk, ← eu, eq-eqb (u + r.spare) 0 pu, ← eo, po) el
-
 module _ {f : ℕ → Record} {v n : ℕ} where
   pub decides-placed : Decides (rightly_placed (f n) v n (start_at f)) (Placed f v n)
   decides-placed =
@@ -115,10 +95,6 @@ module _ {n : ℕ} {st : ℕ → ℕ} (low : (j : ℕ) → j < n → st j ≤ j)
   ordered-before (x ∷ xs) e l o =
       let h : x < n = omega arith in
       (h, ordered-before xs (st x) (omega (arith, low x h)) o.1)
-
-  -- the first operand, by the shape that the code has
-  pub first-before : (r : Record) {h : Shape} → h ≡ shape_at r → Ordered st n (operands_of (shape_at r) r) → Before n (operands_of h r)
-  first-before r e o = rw e (ordered-before (operands_of (shape_at r) r) n (omega arith) o)
 
 -- ---- over a table, where the starts below n are known and 0 stands for the rest
 module _ (f : ℕ → Record) where

@@ -16,31 +16,22 @@ use numbers::NodeNumber;
 fn known(h: Shape) -> bool
     ensures { result ≡ is_known h }
 {
-    match h {
-        Shape::Wrong => false,
-        Shape::Bare => true,
-        Shape::Valued => true,
-        Shape::Named => true,
-        Shape::One(_) => true,
-        Shape::Two(_, _) => true,
-        Shape::Three(_, _, _) => true,
-    }
+    h != Shape::Wrong
 }
 
 // The sum of the fields that the shape doesn't use.
 fn unused(h: Shape, r: Record) -> u32
     ensures { (result ≡ unused_of h r) × (result < 4 * word_limit) }
 {
-    let a = r.a as u32;
-    let b = r.b as u32;
-    let c = r.c as u32;
-    let value = r.value as u32;
+    let a = u32::from(r.a);
+    let b = u32::from(r.b);
+    let c = u32::from(r.c);
+    let value = u32::from(r.value);
     match h {
         Shape::Wrong => 0,
         Shape::Bare => a + b + c + value,
         Shape::Valued => a + b + c,
-        Shape::Named => b + c + value,
-        Shape::One(_) => b + c + value,
+        Shape::Named | Shape::One(_) => b + c + value,
         Shape::Two(_, _) => c + value,
         Shape::Three(_, _, _) => value,
     }
@@ -50,23 +41,14 @@ fn unused(h: Shape, r: Record) -> u32
 fn listed(h: Shape, r: Record, v: usize) -> bool
     ensures { result ≡ is_listed h r v }
 {
-    let a = r.a as usize;
-    match h {
-        Shape::Wrong => true,
-        Shape::Bare => true,
-        Shape::Valued => true,
-        Shape::Named => a < v,
-        Shape::One(_) => true,
-        Shape::Two(_, _) => true,
-        Shape::Three(_, _, _) => true,
-    }
+    h != Shape::Named || usize::from(r.a) < v
 }
 
 // Whether x is the node just before e.
 fn precedes(x: NodeNumber, e: NodeNumber) -> bool
     ensures { result ≡ eqb (x.0 + 1) e.0 }
 {
-    x.0 as usize + 1 == e.0 as usize
+    u32::from(x.0) + 1 == u32::from(e.0)
 }
 
 // Where the subtree of node x starts.
@@ -74,14 +56,7 @@ pub fn start_of(x: NodeNumber, starts: &[u16; MOST_NODES]) -> NodeNumber
     requires { x.0 < most_nodes }
     ensures { result.0 ≡ at 0 starts.now x.0 }
 {
-    let i = x.0 as usize;
-    NodeNumber(starts[i])
-}
-
-fn one_ordered(a: NodeNumber, e: NodeNumber) -> bool
-    ensures { result ≡ eqb (a.0 + 1) e.0 && true }
-{
-    precedes(a, e)
+    NodeNumber(starts[x.0 as usize])
 }
 
 // Whether b is the node just before e, and a the one just before b's subtree.
@@ -89,10 +64,7 @@ fn two_ordered(a: NodeNumber, b: NodeNumber, e: NodeNumber, starts: &[u16; MOST_
     requires { e.0 ≤ most_nodes }
     ensures { result ≡ in_order (at 0 starts.now) e.0 (b.0 ∷ a.0 ∷ []) }
 {
-    if !precedes(b, e) {
-        return false;
-    }
-    one_ordered(a, start_of(b, starts))
+    precedes(b, e) && precedes(a, start_of(b, starts))
 }
 
 fn three_ordered(
@@ -105,10 +77,7 @@ fn three_ordered(
     requires { (e.0 ≤ most_nodes) × Falling e.0 starts.now }
     ensures { result ≡ in_order (at 0 starts.now) e.0 (c.0 ∷ b.0 ∷ a.0 ∷ []) }
 {
-    if !precedes(c, e) {
-        return false;
-    }
-    two_ordered(a, b, start_of(c, starts), starts)
+    precedes(c, e) && two_ordered(a, b, start_of(c, starts), starts)
 }
 
 // Whether the operands of node n stand where the order puts them.
@@ -117,11 +86,8 @@ fn ordered(h: Shape, r: Record, n: NodeNumber, starts: &[u16; MOST_NODES]) -> bo
     ensures { result ≡ in_order (at 0 starts.now) n.0 (operands_of h r) }
 {
     match h {
-        Shape::Wrong => true,
-        Shape::Bare => true,
-        Shape::Valued => true,
-        Shape::Named => true,
-        Shape::One(_) => one_ordered(NodeNumber(r.a), n),
+        Shape::Wrong | Shape::Bare | Shape::Valued | Shape::Named => true,
+        Shape::One(_) => precedes(NodeNumber(r.a), n),
         Shape::Two(_, _) => two_ordered(NodeNumber(r.a), NodeNumber(r.b), n, starts),
         Shape::Three(_, _, _) => {
             three_ordered(NodeNumber(r.a), NodeNumber(r.b), NodeNumber(r.c), n, starts)
@@ -130,23 +96,16 @@ fn ordered(h: Shape, r: Record, n: NodeNumber, starts: &[u16; MOST_NODES]) -> bo
 }
 
 // Whether the record of node n keeps all that refusal 6 asks.
+#[tactic(auto, unfolding(crate::specs::Order::rightly_placed))]
 pub fn right_place(r: Record, v: usize, n: NodeNumber, starts: &[u16; MOST_NODES]) -> bool
     requires { (n.0 ≤ most_nodes) × Falling n.0 starts.now }
     ensures { result ≡ rightly_placed r v n.0 (at 0 starts.now) }
 {
-    let kind = r.kind;
-    let h = kinds::shape_of(kind);
-    if !known(h) {
-        return false;
-    }
-    let spare = r.spare as u32;
-    if unused(h, r) + spare != 0 {
-        return false;
-    }
-    if !ordered(h, r, n, starts) {
-        return false;
-    }
-    listed(h, r, v)
+    let h = kinds::shape_of(r.kind);
+    known(h)
+        && unused(h, r) + u32::from(r.spare) == 0
+        && ordered(h, r, n, starts)
+        && listed(h, r, v)
 }
 
 // Where the subtree of node n starts, its operands being in order.
@@ -154,15 +113,10 @@ pub fn start(r: Record, n: NodeNumber, starts: &[u16; MOST_NODES]) -> NodeNumber
     requires { (n.0 ≤ most_nodes) × Falling n.0 starts.now × Ordered (at 0 starts.now) n.0 (operands_of (shape_at r) r) }
     ensures { result.0 ≡ start_by (shape_at r) r n.0 (at 0 starts.now) }
 {
-    let kind = r.kind;
-    let h = kinds::shape_of(kind);
-    match h {
-        Shape::Wrong => n,
-        Shape::Bare => n,
-        Shape::Valued => n,
-        Shape::Named => n,
-        Shape::One(_) => start_of(NodeNumber(r.a), starts),
-        Shape::Two(_, _) => start_of(NodeNumber(r.a), starts),
-        Shape::Three(_, _, _) => start_of(NodeNumber(r.a), starts),
+    match kinds::shape_of(r.kind) {
+        Shape::Wrong | Shape::Bare | Shape::Valued | Shape::Named => n,
+        Shape::One(_) | Shape::Two(_, _) | Shape::Three(_, _, _) => {
+            start_of(NodeNumber(r.a), starts)
+        }
     }
 }

@@ -1,7 +1,6 @@
 -- Symbols and constants: their bytes and how many these are. Assumes nothing.
-use Prim.Native.Nat.{ℕ, ◌+◌, ◌/◌, ◌%◌, ◌≤◌, ◌<◌}
+use Prim.Native.Nat.{ℕ, ◌≤◌, ◌<◌}
 use mathlib.Core.Path.{◌≡◌, refl}
-use mathlib.Core.List.{[], ◌∷◌}
 use native.Mathlib.Decide.{dec_lt}
 use native.Mathlib.Omega.{arith}
 use borrow.Author.Tests.{lt-ltb, le-ltb}
@@ -11,19 +10,11 @@ use Rattle.numbers.specs.Two.{enc}
 use Rattle.wording.specs.Sixteen.{hex_text, literal, symbol_text}
 use Rattle.pieces.specs.Sizes.{constant_bytes, longest_symbol}
 
-pub one-digit : {i : ℕ} → i < 10 → 118 ∷ (48 + i) ∷ [] ≡ symbol_text i
-unfolding symbol_text
-one-digit {i} h = rw (lt-ltb i 10 h)
-
-pub two_digits : {i : ℕ} → 10 ≤ i → 118 ∷ (48 + i / 10 % 10) ∷ (48 + i % 10) ∷ [] ≡ symbol_text i
-unfolding symbol_text
-two_digits {i} h = rw (le-ltb i 10 h)
-
-pub symbol_low : {i : ℕ} → i < 10 → length (symbol_text i) ≡ 2
+symbol_low : {i : ℕ} → i < 10 → length (symbol_text i) ≡ 2
 unfolding symbol_text
 symbol_low {i} h = rw (lt-ltb i 10 h)
 
-pub symbol_high : {i : ℕ} → 10 ≤ i → length (symbol_text i) ≡ 3
+symbol_high : {i : ℕ} → 10 ≤ i → length (symbol_text i) ≡ 3
 unfolding symbol_text
 symbol_high {i} h = rw (le-ltb i 10 h)
 

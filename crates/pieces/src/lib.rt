@@ -8,7 +8,6 @@ ghost use Rattle.wording.specs.Words.{word_of};
 ghost use Rattle.wording.specs.Sixteen.{hex_digit, hex_text, symbol_text};
 ghost use Rattle.room.specs.Room.{Wrote};
 ghost use Rattle.pieces.specs.Sizes.{constant_bytes};
-ghost use Rattle.pieces.specs.Spelling.{Spells};
 
 use kinds::Kind;
 use numbers::VariableNumber;
@@ -23,33 +22,26 @@ pub const CLOSE: [u8; 1] = *b")";
 // The bytes of a constant.
 pub const CONSTANT_BYTES: usize = 6;
 
-// The letters of a kind's word, blanks behind them, and how many they are.
-#[derive(Clone, Copy)]
-struct Word([u8; 8], usize);
-
 // A kind's word: behind the opening parenthesis, or the whole text.
-fn word_of(kind: Kind) -> Word
-    ensures { Spells (word_of kind) result }
+fn word_of(kind: Kind) -> &'static [u8]
+    ensures { result.now ≡ word_of kind }
 {
     match kind {
-        Kind::Unknown => Word(*b"        ", 0),
-        Kind::True => Word(*b"true    ", 4),
-        Kind::False => Word(*b"false   ", 5),
-        Kind::Not => Word(*b"not     ", 3),
-        Kind::And => Word(*b"and     ", 3),
-        Kind::Or => Word(*b"or      ", 2),
-        Kind::Implies => Word(*b"=>      ", 2),
-        Kind::Iff => Word(*b"=       ", 1),
-        Kind::Equal => Word(*b"=       ", 1),
-        Kind::Less => Word(*b"bvslt   ", 5),
-        Kind::AtMost => Word(*b"bvsle   ", 5),
-        Kind::Constant => Word(*b"        ", 0),
-        Kind::Variable => Word(*b"        ", 0),
-        Kind::Minus => Word(*b"bvneg   ", 5),
-        Kind::Sum => Word(*b"bvadd   ", 5),
-        Kind::Difference => Word(*b"bvsub   ", 5),
-        Kind::Product => Word(*b"bvmul   ", 5),
-        Kind::If => Word(*b"ite     ", 3),
+        Kind::Unknown | Kind::Constant | Kind::Variable => b"",
+        Kind::True => b"true",
+        Kind::False => b"false",
+        Kind::Not => b"not",
+        Kind::And => b"and",
+        Kind::Or => b"or",
+        Kind::Implies => b"=>",
+        Kind::Iff | Kind::Equal => b"=",
+        Kind::Less => b"bvslt",
+        Kind::AtMost => b"bvsle",
+        Kind::Minus => b"bvneg",
+        Kind::Sum => b"bvadd",
+        Kind::Difference => b"bvsub",
+        Kind::Product => b"bvmul",
+        Kind::If => b"ite",
     }
 }
 
@@ -57,8 +49,7 @@ fn word_of(kind: Kind) -> Word
 pub fn word_len(kind: Kind) -> usize
     ensures { result ≡ length (word_of kind) }
 {
-    let word = word_of(kind);
-    word.1
+    word_of(kind).len()
 }
 
 // A kind's word.
@@ -66,10 +57,7 @@ pub fn put_word(room: &mut [u8], at: usize, kind: Kind) -> usize
     requires { at + length (word_of kind) ≤ length room.old }
     ensures { Wrote (word_of kind) room.old room.new at result }
 {
-    let word = word_of(kind);
-    let letters = word.0;
-    let size = word.1;
-    room::put(room, at, &letters[..size])
+    room::put(room, at, word_of(kind))
 }
 
 // The opening parenthesis and a kind's word, to the front of the room.
@@ -82,6 +70,7 @@ pub fn head(room: &mut [u8], kind: Kind) -> usize
 }
 
 // A hexadecimal digit.
+#[tactic(auto, unfolding(wording::specs::Sixteen::hex_digit))]
 fn hex_digit(d: u16) -> u8
     requires { d < 16 }
     ensures { result ≡ hex_digit d }
@@ -94,6 +83,7 @@ fn hex_digit(d: u16) -> u8
 }
 
 // A constant by its bits, to the front of the room.
+#[tactic(auto, using(room::proofs::RoomLaws::wrote_as), unfolding(wording::specs::Sixteen::hex_text))]
 pub fn constant(room: &mut [u8], bits: u16) -> usize
     requires { constant_bytes ≤ length room.old }
     ensures { Wrote (hex_text bits) room.old room.new 0 result }
@@ -118,6 +108,7 @@ pub fn constant_from(room: &mut [u8], at: usize, bits: u16) -> usize
 }
 
 // A variable's symbol.
+#[tactic(auto, unfolding(wording::specs::Sixteen::symbol_text))]
 pub fn symbol(room: &mut [u8], at: usize, n: VariableNumber) -> usize
     requires { (n.0 < most_variables) × (at + length (symbol_text n.0) ≤ length room.old) }
     ensures { Wrote (symbol_text n.0) room.old room.new at result }
@@ -133,6 +124,7 @@ pub fn symbol(room: &mut [u8], at: usize, n: VariableNumber) -> usize
 }
 
 // The length of a variable's symbol.
+#[tactic(auto, unfolding(wording::specs::Sixteen::symbol_text))]
 pub fn symbol_len(n: VariableNumber) -> usize
     ensures { result ≡ length (symbol_text n.0) }
 {

@@ -1,12 +1,12 @@
 -- What `print` answers and what it leaves in the room (document 02, item 4).
-use Rattle.std.specs.Prelude.{ℕ, List, leb, length}
+use Rattle.std.specs.Prelude.{ℕ, List, leb, length, Result}
 use Rattle.std.proofs.Math.Option.{Option}
 use Rattle.lists.specs.First.{◌otherwise◌, first}
 use Rattle.refusals.specs.declared.Refusal.{Refusal}
 use Rattle.refusals.specs.Said.{unless}
 use Rattle.layout.specs.Parts.{variable_count, variable_at, rule_in}
 use Rattle.reading.specs.Cascade.{refusal_of}
-use Rattle.room.specs.declared.Written.{Written}
+use Rattle.refusals.specs.declared.Refused.{Refused}
 use Rattle.room.specs.Written.{Fills}
 use Rattle.texts.specs.Plain.{text_of}
 use Rattle.texts.specs.WordKinds.{behind_word, is_none}
@@ -26,5 +26,5 @@ text_refusal limit s room =
 abbrev pub longest_text : ℕ
 longest_text = 23183
 
-abbrev pub Prints : ℕ → List ℕ → List ℕ → Written → List ℕ → Type 0
+abbrev pub Prints : ℕ → List ℕ → List ℕ → Result ℕ Refused → List ℕ → Type 0
 Prints limit s before r after = Fills (text_refusal limit s (length before)) (text_of (rule_in s)) before r after

@@ -22,8 +22,7 @@ ghost use Rattle.printer.specs.Prints.{word_refusal, Prints};
 use expressions::BLANK;
 use layout::MAX_OFFSET;
 use numbers::{NodeNumber, VariableNumber};
-use refusals::{Reading, Refusal};
-use room::Written;
+use refusals::{Cause, Refused};
 
 // A room of so many bytes is enough for the text of every accepted sheet.
 pub const LONGEST_TEXT: usize = 23183;
@@ -84,10 +83,8 @@ fn variable_lines(sheet: &[u8], count: usize, room: &mut [u8]) -> usize
     ensures { Wrote (joined_below (line_at sheet.now) count) room.old room.new 0 result }
 {
     let mut next = 0;
-    let mut variable: usize = 0;
-    while variable < count {
+    for variable in 0..count {
         next = variable_line(sheet, VariableNumber(variable as u16), room, next);
-        variable += 1;
     }
     next
 }
@@ -110,10 +107,8 @@ fn lines_len(sheet: &[u8], count: usize) -> usize
     ensures { result ≡ length (joined_below (line_at sheet.now) count) }
 {
     let mut size = 0;
-    let mut i: usize = 0;
-    while i < count {
-        size += line_len(sheet, VariableNumber(i as u16));
-        i += 1;
+    for variable in 0..count {
+        size += line_len(sheet, VariableNumber(variable as u16));
     }
     size
 }
@@ -157,18 +152,18 @@ fn text_len(sheet: &[u8]) -> usize
 }
 
 // The text of an accepted sheet whose names are no words, or refusal 9 at the bytes that it needs.
-fn print_named(sheet: &[u8], room: &mut [u8]) -> Written
+fn print_named(sheet: &[u8], room: &mut [u8]) -> Result<usize, Refused>
     requires { (refusal_of most_nodes sheet.now ≡ none) × (first (word_refusal sheet.now) 0 (variable_count sheet.now) ≡ none) }
     ensures { Prints most_nodes sheet.now room.old result room.new }
 {
     let size = text_len(sheet);
     if room.len() < size {
-        return Written::Refused(Refusal {
-            number: 9,
+        return Err(Refused {
+            cause: Cause::Room,
             place: size,
         });
     }
-    Written::Done(put_text(sheet, room))
+    Ok(put_text(sheet, room))
 }
 
 // Whether a variable's name is no word.
@@ -181,41 +176,35 @@ fn plain_name(sheet: &[u8], n: VariableNumber) -> bool
 }
 
 // Refusal 19: the lowest variable whose name is a word.
-fn read_names(sheet: &[u8]) -> Reading
+fn read_names(sheet: &[u8]) -> Result<(), Refused>
     requires { refusal_of most_nodes sheet.now ≡ none }
     ensures { said_of result ≡ first (word_refusal sheet.now) 0 (variable_count sheet.now) }
 {
     let count = header::variable_count(sheet);
-    let mut checked: usize = 0;
-    while checked < count {
+    for checked in 0..count {
         if !plain_name(sheet, VariableNumber(checked as u16)) {
-            return Reading::Refused(Refusal {
-                number: 19,
+            return Err(Refused {
+                cause: Cause::Word,
                 place: checked,
             });
         }
-        checked += 1;
     }
-    Reading::Accepted
+    Ok(())
 }
 
 // The text of an accepted sheet, or refusal 19 or 9.
-fn print_accepted(sheet: &[u8], room: &mut [u8]) -> Written
+fn print_accepted(sheet: &[u8], room: &mut [u8]) -> Result<usize, Refused>
     requires { refusal_of most_nodes sheet.now ≡ none }
     ensures { Prints most_nodes sheet.now room.old result room.new }
 {
-    match read_names(sheet) {
-        Reading::Refused(refusal) => Written::Refused(refusal),
-        Reading::Accepted => print_named(sheet, room),
-    }
+    read_names(sheet)?;
+    print_named(sheet, room)
 }
 
 // The text to the front of the room; a refusal leaves the room untouched.
-pub fn print(sheet: &[u8], room: &mut [u8]) -> Written
+pub fn print(sheet: &[u8], room: &mut [u8]) -> Result<usize, Refused>
     ensures { Prints most_nodes sheet.now room.old result room.new }
 {
-    match reading::read(sheet) {
-        Reading::Refused(refusal) => Written::Refused(refusal),
-        Reading::Accepted => print_accepted(sheet, room),
-    }
+    reading::read(sheet)?;
+    print_accepted(sheet, room)
 }

@@ -8,33 +8,25 @@ ghost use Rattle.reading.specs.Cascade.{refusal_of};
 ghost use Rattle.reading.specs.Name.{NamePart};
 
 use numbers::VariableNumber;
-use refusals::Reading;
+use refusals::Refused;
 
 // Accepted, or refusal 1 to 8 with its place.
-pub fn read(sheet: &[u8]) -> Reading
+#[tactic(auto, using(crate::proofs::ReadLaws::one_block, crate::proofs::ReadLaws::read_counted, crate::proofs::ReadLaws::records_inside), unfolding(crate::specs::Cascade::refusal_of))]
+pub fn read(sheet: &[u8]) -> Result<(), Refused>
     ensures { said_of result ≡ refusal_of most_nodes sheet.now }
 {
-    let blocks = blocks::read_blocks(sheet);
-    let Reading::Accepted = blocks else {
-        return blocks;
-    };
-    let header = header::read_header(sheet);
-    let Reading::Accepted = header else {
-        return header;
-    };
-    let variables = records::read_variables(sheet);
-    let Reading::Accepted = variables else {
-        return variables;
-    };
+    blocks::read_blocks(sheet)?;
+    header::read_header(sheet)?;
+    records::read_variables(sheet)?;
     nodes::read_nodes(sheet)
 }
 
 // A variable's name as the very part of the sheet; an empty part where the sheet is refused or there is no such variable.
+#[tactic(auto, using(crate::proofs::ReadLaws::accepted_long))]
 pub fn name(sheet: &[u8], variable: VariableNumber) -> &[u8]
     ensures { NamePart most_nodes sheet.entry variable.0 result }
 {
-    let reading = read(sheet);
-    let Reading::Accepted = reading else {
+    let Ok(()) = read(sheet) else {
         return &sheet[0..0];
     };
     if header::variable_count(sheet) <= variable.0 as usize {

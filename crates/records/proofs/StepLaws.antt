@@ -1,18 +1,20 @@
 -- The tests of names and of variable records as the code runs them, step by step. Assumes nothing.
 use Prim.Native.Nat.{ℕ, suc, ◌+◌, ◌-◌, ◌≤◌, ◌<◌}
-use mathlib.Core.Path.{◌≡◌, refl, sym, ap, ◌∙◌}
-use mathlib.Core.Bool.{Bool, true, false, not, and-false}
+use mathlib.Core.Path.{◌≡◌, refl, sym, ◌∙◌}
+use mathlib.Core.Bool.{Bool, true, false, not}
 use mathlib.Core.List.{List, [], ◌∷◌}
-use native.Mathlib.Numerals.{add-one}
 use native.Mathlib.Omega.{arith}
-use borrow.Author.Tests.{eq-eqb, ne_eqb, le-leb}
-use lib.ListN.{length, get_or, drop, drop_of_length-le}
-use lib.Seq.{drop-cons}
+use borrow.Author.Tests.{eq-eqb, le-leb}
+use lib.Dec.{eqb}
+use lib.ListN.{length, get_or, take, drop}
+use lib.Seq.{take_all}
+use lib.Pointwise.{pointwise}
 use lib.Signed.{le_z}
 use Rattle.lists.specs.Places.{all_below}
 use Rattle.numbers.specs.Bytes.{i16_at}
 use Rattle.layout.specs.Limits.{max_offset, name_start, most_name_bytes, name_field, variable_place}
 use Rattle.layout.specs.Parts.{name_size, zero_byte, name_in}
+use Rattle.std.specs.List.{list_all}
 use Rattle.header.specs.Header.{zeros}
 use Rattle.lists.proofs.BelowLaws.{all_pass, all-stop}
 use Rattle.lists.specs.Names.{same_bytes}
@@ -21,53 +23,23 @@ use Rattle.records.specs.Names.{VariableRule}
 use Rattle.lists.proofs.Decided.{denied}
 use Rattle.records.proofs.NameLaws.{variable-decided}
 
-pub name-empty : (l : List ℕ) → length l ≡ 0 → name_right l ≡ false
+pub name_bytes_all : (l : List ℕ) → list_all is_name_byte l ≡ all_name_bytes l
+unfolding all_name_bytes
+name_bytes_all [] = refl
+name_bytes_all (b ∷ l) = rw (name_bytes_all l)
+
+-- a letter, and what stands behind it
+pub name-started : (l : List ℕ) → 1 ≤ length l → is_letter (get_or l 0 0) ≡ true → list_all is_name_byte (take (length l - 1) (drop 1 l)) ≡ name_right l
 unfolding name_right
-name-empty [] e = refl
-name-empty (b ∷ l) e = absurd (omega arith)
+name-started [] h e = absurd (omega arith)
+name-started (b ∷ l) h e = rw (e, take_all (suc (length l) - 1) l (omega arith), name_bytes_all)
 
-pub name-started : (l : List ℕ) → (length l ≡ 0 → ⊥) → is_letter (get_or l 0 0) ≡ true → name_right l ≡ all_name_bytes (drop 1 l)
-unfolding name_right
-name-started [] n e = absurd (n refl)
-name-started (b ∷ l) n e = rw e
-
-pub name-unstarted : (l : List ℕ) → (length l ≡ 0 → ⊥) → is_letter (get_or l 0 0) ≡ false → name_right l ≡ false
-unfolding name_right
-name-unstarted [] n e = absurd (n refl)
-name-unstarted (b ∷ l) n e = rw e
-
-module _ (l : List ℕ) {i : ℕ} where
-  pub bytes-pass : i < length l → is_name_byte (get_or l i 0) ≡ true → all_name_bytes (drop i l) ≡ all_name_bytes (drop (i + 1) l)
-  unfolding all_name_bytes
-  bytes-pass h e = rw (drop-cons l i 0 h, add-one, e)
-
-  pub bytes-stop : i < length l → is_name_byte (get_or l i 0) ≡ false → all_name_bytes (drop i l) ≡ false
-  unfolding all_name_bytes
-  bytes-stop h e = rw (drop-cons l i 0 h, e)
-
-  pub bytes-done : length l ≤ i → all_name_bytes (drop i l) ≡ true
-  unfolding all_name_bytes
-  bytes-done h = rw drop_of_length-le
-
-pub same-longer : (k l : List ℕ) → (length k ≡ length l → ⊥) → same_bytes k l ≡ false
+pub same_pointwise : (k l : List ℕ) → pointwise eqb k l ≡ same_bytes k l
 unfolding same_bytes
-same-longer [] [] n = absurd (n refl)
-same-longer [] (c ∷ l) n = refl
-same-longer (b ∷ k) [] n = refl
-same-longer (b ∷ k) (c ∷ l) n = rw (same-longer k l (λ e. n (ap suc e)), and-false)
-
-module _ (k l : List ℕ) {i : ℕ} where
-  pub same-pass : i < length k → i < length l → get_or k i 0 ≡ get_or l i 0 → same_bytes (drop i k) (drop i l) ≡ same_bytes (drop (i + 1) k) (drop (i + 1) l)
-  unfolding same_bytes
-  same-pass g h e = rw (drop-cons k i 0 g, drop-cons l i 0 h, add-one, eq-eqb _ _ e)
-
-  pub same_stop : i < length k → i < length l → (get_or k i 0 ≡ get_or l i 0 → ⊥) → same_bytes (drop i k) (drop i l) ≡ false
-  unfolding same_bytes
-  same_stop g h n = rw (drop-cons k i 0 g, drop-cons l i 0 h, ne_eqb _ _ n)
-
-  pub same-done : length k ≤ i → length l ≤ i → same_bytes (drop i k) (drop i l) ≡ true
-  unfolding same_bytes
-  same-done g h = rw (drop_of_length-le k g, drop_of_length-le l h)
+same_pointwise [] [] = refl
+same_pointwise [] (c ∷ l) = refl
+same_pointwise (b ∷ k) [] = refl
+same_pointwise (b ∷ k) (c ∷ l) = rw (same_pointwise k l)
 
 -- no variable below m has variable n's name
 pub unlike_below : List ℕ → ℕ → ℕ → Bool

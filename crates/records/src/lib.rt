@@ -9,6 +9,7 @@ ghost use Rattle.layout.specs.Limits.{block_bytes, max_offset, name_start, most_
 ghost use Rattle.layout.specs.Parts.{variable_count, variable_at, record_in, name_size, zero_byte, name_in, table};
 ghost use Rattle.refusals.specs.Said.{said_of};
 ghost use Rattle.lists.specs.Names.{same_bytes};
+ghost use Rattle.std.specs.List.{list_all};
 ghost use Rattle.records.specs.Variables.{is_letter, is_name_byte, name_right, variable_right, fresh, variables};
 
 use kinds::Record;
@@ -18,64 +19,46 @@ use layout::{
     SPARE_START, VALUE_OFFSET, VARIABLE_BYTES, ZERO_OFFSET,
 };
 use numbers::{NodeNumber, Range, VariableNumber};
-use refusals::{Reading, Refusal};
+use refusals::{Cause, Refused};
 
-fn between(low: u8, b: u8, high: u8) -> bool
-    ensures { result ≡ leb low b && leb b high }
-{
-    low <= b && b <= high
-}
-
+#[tactic(auto, unfolding(crate::specs::Variables::is_letter))]
 fn letter(b: u8) -> bool
     ensures { result ≡ is_letter b }
 {
-    between(65, b, 90) || between(97, b, 122)
+    matches!(b, b'A'..=b'Z' | b'a'..=b'z')
 }
 
+#[tactic(auto, unfolding(crate::specs::Variables::is_name_byte))]
 fn name_byte(b: u8) -> bool
     ensures { result ≡ is_name_byte b }
 {
-    if letter(b) {
-        return true;
-    }
-    between(48, b, 57) || b == 95
+    letter(b) || matches!(b, b'0'..=b'9' | b'_')
+}
+
+// Whether all bytes may stand in a name behind its first.
+fn name_bytes(bytes: &[u8]) -> bool
+    ensures { result ≡ list_all is_name_byte bytes.now }
+{
+    bytes.iter().all(|b| name_byte(*b))
 }
 
 // Whether the bytes are a name.
+#[tactic(auto, unfolding(crate::specs::Variables::name_right))]
 pub fn name_right(name: &[u8]) -> bool
     ensures { result ≡ name_right name.now }
 {
-    if name.len() == 0 {
-        return false;
+    match name {
+        [first, rest @ ..] => letter(*first) && name_bytes(rest),
+        [] => false,
     }
-    if !letter(name[0]) {
-        return false;
-    }
-    let mut i = 1;
-    while i < name.len() {
-        if !name_byte(name[i]) {
-            return false;
-        }
-        i += 1;
-    }
-    true
 }
 
 // Whether two texts are the same, byte for byte.
+#[tactic(auto, using(crate::proofs::StepLaws::same_pointwise))]
 pub fn same_bytes(a: &[u8], b: &[u8]) -> bool
     ensures { result ≡ same_bytes a.now b.now }
 {
-    if a.len() != b.len() {
-        return false;
-    }
-    let mut i = 0;
-    while i < a.len() {
-        if a[i] != b[i] {
-            return false;
-        }
-        i += 1;
-    }
-    true
+    a == b
 }
 
 // The name in the variable record at a place, as the very part of the sheet.
@@ -130,8 +113,7 @@ fn variable_right(sheet: &[u8], at: usize) -> bool
     if zero_byte(sheet, at) != 0 {
         return false;
     }
-    let name = name_in(sheet, at);
-    if !name_right(name) {
+    if !name_right(name_in(sheet, at)) {
         return false;
     }
     header::clear(sheet, at + NAME_START + size, NAME_FIELD - size)
@@ -152,13 +134,10 @@ fn fresh_name(sheet: &[u8], n: VariableNumber) -> bool
     requires { (2 * block_bytes ≤ length sheet.now) × (n.0 < most_variables) }
     ensures { result ≡ fresh sheet.now n.0 }
 {
-    let end = n.0;
-    let mut m: u16 = 0;
-    while m < end {
+    for m in 0..n.0 {
         if same_name(sheet, VariableNumber(m), n) {
             return false;
         }
-        m += 1;
     }
     true
 }
@@ -172,22 +151,20 @@ fn variable_kept(sheet: &[u8], n: VariableNumber) -> bool
 }
 
 // Refusal 5: the lowest variable record that breaks a rule.
-pub fn read_variables(sheet: &[u8]) -> Reading
+pub fn read_variables(sheet: &[u8]) -> Result<(), Refused>
     requires { (2 * block_bytes ≤ length sheet.now) × (variable_count sheet.now ≤ most_variables) }
     ensures { said_of result ≡ variables sheet.now }
 {
     let v = header::variable_count(sheet);
-    let mut i: usize = 0;
-    while i < v {
+    for i in 0..v {
         if !variable_kept(sheet, VariableNumber(i as u16)) {
-            return Reading::Refused(Refusal {
-                number: 5,
+            return Err(Refused {
+                cause: Cause::Variable,
                 place: i,
             });
         }
-        i += 1;
     }
-    Reading::Accepted
+    Ok(())
 }
 
 // A variable's domain.
@@ -202,7 +179,7 @@ pub fn domain(sheet: &[u8], n: VariableNumber) -> Range
 }
 
 // Where a node's record stands.
-fn node_place(n: NodeNumber) -> usize
+pub fn node_place(n: NodeNumber) -> usize
     ensures { result ≡ node_place n.0 }
 {
     let i = n.0 as usize;
@@ -230,18 +207,12 @@ pub fn record_at(sheet: &[u8], n: NodeNumber) -> Record
     ensures { result ≡ table sheet.now n.0 }
 {
     let at = node_place(n);
-    let kind = kinds::kind_of(sheet[at]);
-    let a = numbers::u16_at(sheet, at + A_OFFSET);
-    let b = numbers::u16_at(sheet, at + B_OFFSET);
-    let c = numbers::u16_at(sheet, at + C_OFFSET);
-    let value = numbers::u16_at(sheet, at + VALUE_OFFSET);
-    let spare = spare_in(sheet, at);
     Record {
-        kind,
-        a,
-        b,
-        c,
-        value,
-        spare,
+        kind: kinds::kind_of(sheet[at]),
+        a: numbers::u16_at(sheet, at + A_OFFSET),
+        b: numbers::u16_at(sheet, at + B_OFFSET),
+        c: numbers::u16_at(sheet, at + C_OFFSET),
+        value: numbers::u16_at(sheet, at + VALUE_OFFSET),
+        spare: spare_in(sheet, at),
     }
 }

@@ -11,41 +11,26 @@ ghost use Rattle.room.specs.Room.{Wrote};
 ghost use Rattle.sheets.specs.Laying.{with_counts, with_variable, with_node, with_check, with_checks};
 
 use kinds::Record;
-use layout::{BLOCK_BYTES, CONTENT_BYTES, NODE_BYTES, NODES_IN_BLOCK};
+use layout::{BLOCK_BYTES, CONTENT_BYTES};
 use numbers::{NodeNumber, VariableNumber};
 
-// The edition, and how many numbers one byte and two bytes can hold.
+// The edition.
 const EDITION: u8 = 1;
-
-const BYTE_LIMIT: u16 = 256;
-
-const WORD_LIMIT: i32 = 65536;
 
 // The edition and the counts.
 pub fn put_counts(sheet: &mut [u8], nodes: usize, variables: usize)
     requires { (block_bytes ≤ length sheet.old) × (nodes ≤ most_nodes) × (variables ≤ most_variables) }
     ensures { sheet.new ≡ with_counts nodes variables sheet.old }
 {
-    let n = nodes as u16;
-    let text = [
-        EDITION,
-        0,
-        (n % BYTE_LIMIT) as u8,
-        (n / BYTE_LIMIT) as u8,
-        variables as u8,
-    ];
-    room::put(sheet, 0, &text);
+    let [n0, n1] = (nodes as u16).to_le_bytes();
+    room::put(sheet, 0, &[EDITION, 0, n0, n1, variables as u8]);
 }
 
 // The 16 bits that stand for a number in two's complement.
 pub fn bits(x: i16) -> u16
     ensures { result ≡ enc 16 x }
 {
-    if 0 <= x {
-        x as u16
-    } else {
-        (x as i32 + WORD_LIMIT) as u16
-    }
+    x.cast_unsigned()
 }
 
 // A variable's record up to its name: the ends of its domain and the name's length.
@@ -53,17 +38,9 @@ fn put_ends(sheet: &mut [u8], at: usize, low: i16, high: i16, size: usize) -> us
     requires { (at + name_start ≤ length sheet.old) × (size ≤ most_name_bytes) }
     ensures { Wrote (pair (enc 16 low) ++ (pair (enc 16 high) ++ (size ∷ 0 ∷ []))) sheet.old sheet.new at result }
 {
-    let least = bits(low);
-    let most = bits(high);
-    let text = [
-        (least % BYTE_LIMIT) as u8,
-        (least / BYTE_LIMIT) as u8,
-        (most % BYTE_LIMIT) as u8,
-        (most / BYTE_LIMIT) as u8,
-        size as u8,
-        0,
-    ];
-    room::put(sheet, at, &text)
+    let [l0, l1] = bits(low).to_le_bytes();
+    let [h0, h1] = bits(high).to_le_bytes();
+    room::put(sheet, at, &[l0, l1, h0, h1, size as u8, 0])
 }
 
 // A variable's record, where the room is zero behind the name.
@@ -76,40 +53,18 @@ pub fn put_variable(sheet: &mut [u8], n: VariableNumber, name: &[u8], low: i16, 
     room::put(sheet, next, name);
 }
 
-// Where a node's record stands.
-fn node_place(n: NodeNumber) -> usize
-    ensures { result ≡ node_place n.0 }
-{
-    let i = n.0 as usize;
-    BLOCK_BYTES * (i / NODES_IN_BLOCK + 1) + NODE_BYTES * (i % NODES_IN_BLOCK)
-}
-
 // A node's record.
 pub fn put_node(sheet: &mut [u8], n: NodeNumber, fields: Record)
     requires { node_place n.0 + node_bytes ≤ length sheet.old }
     ensures { sheet.new ≡ with_node n.0 fields sheet.old }
 {
-    let at = node_place(n);
-    let kind = fields.kind;
-    let text = [
-        kinds::byte_of(kind),
-        0,
-        (fields.a % BYTE_LIMIT) as u8,
-        (fields.a / BYTE_LIMIT) as u8,
-        (fields.b % BYTE_LIMIT) as u8,
-        (fields.b / BYTE_LIMIT) as u8,
-        (fields.c % BYTE_LIMIT) as u8,
-        (fields.c / BYTE_LIMIT) as u8,
-        (fields.value % BYTE_LIMIT) as u8,
-        (fields.value / BYTE_LIMIT) as u8,
-        0,
-        0,
-        0,
-        0,
-        0,
-        0,
-    ];
-    room::put(sheet, at, &text);
+    let [a0, a1] = fields.a.to_le_bytes();
+    let [b0, b1] = fields.b.to_le_bytes();
+    let [c0, c1] = fields.c.to_le_bytes();
+    let [v0, v1] = fields.value.to_le_bytes();
+    let kind = kinds::byte_of(fields.kind);
+    let text = [kind, 0, a0, a1, b0, b1, c0, c1, v0, v1, 0, 0, 0, 0, 0, 0];
+    room::put(sheet, records::node_place(n), &text);
 }
 
 // The check that a block's content gives.
@@ -128,8 +83,7 @@ fn put_check(sheet: &mut [u8], k: usize)
     ensures { sheet.new ≡ with_check k sheet.old }
 {
     let sum = content_check(sheet, k);
-    let text = [(sum % BYTE_LIMIT) as u8, (sum / BYTE_LIMIT) as u8];
-    room::put(sheet, BLOCK_BYTES * k + CONTENT_BYTES, &text);
+    room::put(sheet, BLOCK_BYTES * k + CONTENT_BYTES, &sum.to_le_bytes());
 }
 
 // The checks of all blocks.
@@ -137,9 +91,7 @@ pub fn put_checks(sheet: &mut [u8], count: usize)
     requires { block_bytes * count ≡ length sheet.old }
     ensures { sheet.new ≡ with_checks count sheet.old }
 {
-    let mut k = 0;
-    while k < count {
+    for k in 0..count {
         put_check(sheet, k);
-        k += 1;
     }
 }

@@ -1,11 +1,15 @@
--- A number of 16 bits in decimal, digit by digit. Assumes nothing.
-use Prim.Native.Nat.{ℕ, zero, suc, ◌+◌, ◌/◌, ◌%◌, ◌≤◌, ◌<◌}
-use mathlib.Core.Path.{◌≡◌, sym, ap, ◌∙◌}
+-- A number in decimal, digit by digit. Assumes nothing.
+use Prim.Native.Nat.{ℕ, zero, suc, ◌+◌, ◌-◌, ◌/◌, ◌%◌, ◌^◌, ◌≤◌, ◌<◌, zero-le}
+use mathlib.Core.Path.{◌≡◌, refl, sym, ap, ◌∙◌}
 use mathlib.Core.List.{List, [], ◌∷◌, ◌++◌}
 use native.Mathlib.Decide.{dec_lt}
+use native.Mathlib.Nat.{pow-suc, one-le-pow}
+use native.Mathlib.Numerals.{add-one}
 use native.Mathlib.Omega.{arith}
 use borrow.Author.Tests.{lt-ltb, le-ltb}
-use lib.ListN.{length}
+use lib.Dec.{lit<, lit≤}
+use lib.ListN.{length, take, drop, length-append}
+use Rattle.room.proofs.RoomLaws.{lent}
 use Rattle.numbers.specs.Decimal.{decimal_in, decimal}
 
 -- ---- the first digit alone, and one digit more
@@ -17,96 +21,86 @@ more-digits : (f : ℕ) {n : ℕ} → 10 ≤ n → decimal_in (suc f) n ≡ deci
 unfolding decimal_in
 more-digits f {n} h = rw (le-ltb n 10 h, decimal_in)
 
--- ---- by the number of digits
-in-1 : (f n : ℕ) → n < f → n < 10 → decimal_in f n ≡ (48 + n % 10) ∷ []
-in-1 zero n l h = absurd (omega arith)
-in-1 (suc f) n l h = let e : n ≡ n % 10 = omega arith in one-digit f h ∙ ap (λ (d : ℕ). (48 + d) ∷ []) e
+-- ---- the last k digits, with zeros in front where there are fewer
+abbrev pub last_digits : ℕ → ℕ → List ℕ
+last_digits zero n = []
+last_digits (suc k) n = last_digits k (n / 10) ++ ((48 + n % 10) ∷ [])
 
--- the digits of n / 10, and one behind them
-more : (f n : ℕ) {t : List ℕ} → n < f → 10 ≤ n → ((g : ℕ) → n / 10 < g → decimal_in g (n / 10) ≡ t) → decimal_in f n ≡ t ++ ((48 + n % 10) ∷ [])
-more zero n l h e = absurd (omega arith)
-more (suc f) n l h e = let k : n / 10 < f = omega arith in more-digits f h ∙ ap (λ (t : List ℕ). t ++ ((48 + n % 10) ∷ [])) (e f k)
+-- a number's digits are so many of its last
+own-in : (f n : ℕ) → n < f → decimal_in f n ≡ last_digits (length (decimal_in f n)) n
+own-in zero n l = absurd (omega arith)
+own-in (suc f) n l =
+    elim (dec_lt n 10) [
+      | yes h ↦ let e : n ≡ n % 10 = omega arith in rw (one-digit f h) (ap (λ (d : ℕ). (48 + d) ∷ []) e)
+      | no h ↦
+          let ten : 10 ≤ n = omega arith in
+          let less : n / 10 < f = omega arith in
+          rw (more-digits f ten, length-append, add-one) (ap (λ (t : List ℕ). t ++ ((48 + n % 10) ∷ [])) (own-in f (n / 10) less))
+    ]
 
-in-2 : (f n : ℕ) → n < f → 10 ≤ n → n < 100 → decimal_in f n ≡ (48 + n / 10 % 10) ∷ (48 + n % 10) ∷ []
-in-2 f n l a b = let h : n / 10 < 10 = omega arith in more f n l a (λ g k. in-1 g (n / 10) k h)
+pub own-digits : (n : ℕ) → decimal n ≡ last_digits (length (decimal n)) n
+unfolding decimal
+own-digits n = own-in (suc n) n (omega arith)
 
-in-3 : (f n : ℕ) → n < f → 100 ≤ n → n < 1000 → decimal_in f n ≡ (48 + n / 100 % 10) ∷ (48 + n / 10 % 10) ∷ (48 + n % 10) ∷ []
-in-3 f n l a b =
-    let g : 10 ≤ n / 10 = omega arith in
-    let h : n / 10 < 100 = omega arith in
-    let e : n / 10 / 10 ≡ n / 100 = omega arith in
-    rw (← e) (more f n l (omega arith) (λ j k. in-2 j (n / 10) k g h))
+-- ---- how many they are: at most and at least k + 1
+short-in : (k f n : ℕ) → n < 10 ^ suc k → length (decimal_in f n) ≤ suc k
+unfolding decimal_in
+short-in k zero n h = zero-le
+short-in zero (suc f) n h = rw (one-digit f h) (lit≤ tt)
+short-in (suc k) (suc f) n h =
+    let p = pow-suc 10 (suc k) in
+    let high : n / 10 < 10 ^ suc k = omega arith in
+    let rest = short-in k f (n / 10) high in
+    elim (dec_lt n 10) [
+      | yes l ↦ rw (one-digit f l) (omega arith)
+      | no l ↦ let ten : 10 ≤ n = omega arith in rw (more-digits f ten, length-append) (omega arith)
+    ]
 
-in-4 : (f n : ℕ) → n < f → 1000 ≤ n → n < 10000 → decimal_in f n ≡ (48 + n / 1000 % 10) ∷ (48 + n / 100 % 10) ∷ (48 + n / 10 % 10) ∷ (48 + n % 10) ∷ []
-in-4 f n l a b =
-    let g : 100 ≤ n / 10 = omega arith in
-    let h : n / 10 < 1000 = omega arith in
-    let e : n / 10 / 10 ≡ n / 100 = omega arith in
-    let d : n / 10 / 100 ≡ n / 1000 = omega arith in
-    rw (← e, ← d) (more f n l (omega arith) (λ j k. in-3 j (n / 10) k g h))
+long-in : (k f n : ℕ) → n < f → (0 < k → 10 ^ k ≤ n) → suc k ≤ length (decimal_in f n)
+long-in k zero n l h = absurd (omega arith)
+long-in zero (suc f) n l h =
+    elim (dec_lt n 10) [
+      | yes s ↦ rw (one-digit f s) (lit≤ tt)
+      | no s ↦ let ten : 10 ≤ n = omega arith in rw (more-digits f ten, length-append) (omega arith)
+    ]
+long-in (suc k) (suc f) n l h =
+    let low : 10 ^ suc k ≤ n = h (omega arith) in
+    let one : 1 ≤ 10 ^ k = one-le-pow k 10 (lit< tt) in
+    let p = pow-suc 10 k in
+    let ten : 10 ≤ n = omega arith in
+    let less : n / 10 < f = omega arith in
+    let rest : 10 ^ k ≤ n / 10 = omega arith in
+    let more = long-in k f (n / 10) less (λ z. rest) in
+    rw (more-digits f ten, length-append) (omega arith)
 
-in-5 : (f n : ℕ) → n < f → 10000 ≤ n → n < 100000 → decimal_in f n ≡ (48 + n / 10000 % 10) ∷ (48 + n / 1000 % 10) ∷ (48 + n / 100 % 10) ∷ (48 + n / 10 % 10) ∷ (48 + n % 10) ∷ []
-in-5 f n l a b =
-    let g : 1000 ≤ n / 10 = omega arith in
-    let h : n / 10 < 10000 = omega arith in
-    let e : n / 10 / 10 ≡ n / 100 = omega arith in
-    let d : n / 10 / 100 ≡ n / 1000 = omega arith in
-    let c : n / 10 / 1000 ≡ n / 10000 = omega arith in
-    rw (← e, ← d, ← c) (more f n l (omega arith) (λ j k. in-4 j (n / 10) k g h))
-
--- ---- by the digits that the code works out
-module _ {n : ℕ} {e : ℕ} (p : e ≡ 48 + n % 10) where
-  pub digits_1 : n < 10 → e ∷ [] ≡ decimal n
+module _ (k n : ℕ) (h : n < 10 ^ suc k) where
+  pub decimal-short : length (decimal n) ≤ suc k
   unfolding decimal
-  digits_1 h = rw p (sym (in-1 (suc n) n (omega arith) h))
+  decimal-short = short-in k (suc n) n h
 
-  module _ {d : ℕ} (q : d ≡ 48 + n / 10 % 10) where
-    pub digits_2 : 10 ≤ n → n < 100 → d ∷ e ∷ [] ≡ decimal n
-    unfolding decimal
-    digits_2 l h = rw (p, q) (sym (in-2 (suc n) n (omega arith) l h))
-
-    module _ {c : ℕ} (r : c ≡ 48 + n / 100 % 10) where
-      pub digits_3 : 100 ≤ n → n < 1000 → c ∷ d ∷ e ∷ [] ≡ decimal n
-      unfolding decimal
-      digits_3 l h = rw (p, q, r) (sym (in-3 (suc n) n (omega arith) l h))
-
-      module _ {b : ℕ} (s : b ≡ 48 + n / 1000 % 10) where
-        pub digits_4 : 1000 ≤ n → n < 10000 → b ∷ c ∷ d ∷ e ∷ [] ≡ decimal n
-        unfolding decimal
-        digits_4 l h = rw (p, q, r, s) (sym (in-4 (suc n) n (omega arith) l h))
-
-        pub digits_5 : {a : ℕ} → a ≡ 48 + n / 10000 % 10 → 10000 ≤ n → n < 100000 → a ∷ b ∷ c ∷ d ∷ e ∷ [] ≡ decimal n
-        unfolding decimal
-        digits_5 t l h = rw (p, q, r, s, t) (sym (in-5 (suc n) n (omega arith) l h))
-
--- ---- how many they are
-module _ (n : ℕ) where
-  pub length-1 : n < 10 → 1 ≡ length (decimal n)
+  pub decimal-length : (0 < k → 10 ^ k ≤ n) → suc k ≡ length (decimal n)
   unfolding decimal
-  length-1 h = sym (ap length (in-1 (suc n) n (omega arith) h))
+  decimal-length l = let a = short-in k (suc n) n h in let b = long-in k (suc n) n (omega arith) l in omega arith
 
-  pub length-2 : 10 ≤ n → n < 100 → 2 ≡ length (decimal n)
-  unfolding decimal
-  length-2 l h = sym (ap length (in-2 (suc n) n (omega arith) l h))
+-- ---- those that the code works out
+module _ (n : ℕ) {a b c d e : ℕ} (p : a ≡ 48 + n / 10000 % 10) (q : b ≡ 48 + n / 1000 % 10) (r : c ≡ 48 + n / 100 % 10) (s : d ≡ 48 + n / 10 % 10) (t : e ≡ 48 + n % 10) where
+  -- the last k of five
+  last-of : (k : ℕ) → k ≤ 5 → drop (5 - k) (a ∷ b ∷ c ∷ d ∷ e ∷ []) ≡ last_digits k n
+  last-of zero h = refl
+  last-of (suc zero) h = cc
+  last-of (suc (suc zero)) h = cc
+  last-of (suc (suc (suc zero))) h = let i : n / 10 / 10 ≡ n / 100 = omega arith in cc
+  last-of (suc (suc (suc (suc zero)))) h =
+      let i : n / 10 / 10 ≡ n / 100 = omega arith in
+      let j : n / 10 / 10 / 10 ≡ n / 1000 = omega arith in
+      cc
+  last-of (suc (suc (suc (suc (suc zero))))) h =
+      let i : n / 10 / 10 ≡ n / 100 = omega arith in
+      let j : n / 10 / 10 / 10 ≡ n / 1000 = omega arith in
+      let l : n / 10 / 10 / 10 / 10 ≡ n / 10000 = omega arith in
+      cc
+  last-of (suc (suc (suc (suc (suc (suc k)))))) h = absurd (omega arith)
 
-  pub length-3 : 100 ≤ n → n < 1000 → 3 ≡ length (decimal n)
-  unfolding decimal
-  length-3 l h = sym (ap length (in-3 (suc n) n (omega arith) l h))
-
-  pub length-4 : 1000 ≤ n → n < 10000 → 4 ≡ length (decimal n)
-  unfolding decimal
-  length-4 l h = sym (ap length (in-4 (suc n) n (omega arith) l h))
-
-  pub length-5 : 10000 ≤ n → n < 100000 → 5 ≡ length (decimal n)
-  unfolding decimal
-  length-5 l h = sym (ap length (in-5 (suc n) n (omega arith) l h))
-
-  pub decimal-short : n < 100000 → length (decimal n) ≤ 5
-  decimal-short h = by (dec_lt n 10) (dec_lt n 100) (dec_lt n 1000) (dec_lt n 10000)
-    where
-      by : Dec (n < 10) → Dec (n < 100) → Dec (n < 1000) → Dec (n < 10000) → length (decimal n) ≤ 5
-      by (yes a) p q r = omega (arith, length-1 a)
-      by (no a) (yes b) q r = let k : 10 ≤ n = omega arith in omega (arith, length-2 k b)
-      by (no a) (no b) (yes c) r = let k : 100 ≤ n = omega arith in omega (arith, length-3 k c)
-      by (no a) (no b) (no c) (yes d) = let k : 1000 ≤ n = omega arith in omega (arith, length-4 k d)
-      by (no a) (no b) (no c) (no d) = let k : 10000 ≤ n = omega arith in omega (arith, length-5 k h)
+  -- the last of five, as many as there are
+  pub of-five : {k : ℕ} → k ≡ length (decimal n) → k ≤ 5 → take (5 - (5 - k)) (drop (5 - k) (a ∷ b ∷ c ∷ d ∷ e ∷ [])) ≡ decimal n
+  of-five {k} x h = lent (a ∷ b ∷ c ∷ d ∷ e ∷ []) (5 - k) ∙ last-of k h ∙ rw (← x) at (sym (own-digits n))

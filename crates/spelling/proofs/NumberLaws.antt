@@ -5,19 +5,19 @@ use mathlib.Core.Bool.{true, false}
 use mathlib.Core.List.{◌++◌}
 use native.Mathlib.Decide.{dec_lt}
 use native.Mathlib.Omega.{arith}
-use lib.Dec.{T, lit≤}
-use lib.IntN.{ℤ, pos, negsuc, nat_abs, ◌-ℤ◌}
+use lib.Dec.{lit≤}
+use lib.IntN.{ℤ, pos, negsuc, nat_abs}
 use lib.ListN.{length}
-use lib.Signed.{◌≤ℤ◌, ◌<ℤ◌, lt_z, non_neg, yes_non_neg}
-use mir.Syntax.{w16, w32}
-use mir.Val.{Fits, SFits, to_z, of_z}
-use mir.Facts.{to_z-of_z, Fits-nat_abs}
+use lib.Signed.{◌≤ℤ◌, ◌<ℤ◌, lt_z}
+use mir.Syntax.{w16}
+use mir.Val.{SFits, to_z, of_z}
+use mir.Facts.{to_z-of_z}
 use Rattle.lists.specs.Ascii.{ascii}
 use Rattle.numbers.specs.Two.{dec}
 use Rattle.numbers.proofs.Coding.{dec-low, dec-high}
-use Rattle.numbers.proofs.Zed.{zed, side, pos-ud, negsuc-ud, sub-ud, abs-ud}
+use Rattle.numbers.proofs.Zed.{zed, pos-ud, negsuc-ud, abs-ud}
 use Rattle.numbers.proofs.OrderTests.{lt_z-true, lt_z-false}
-use Rattle.numbers.proofs.Fit.{narrow-ud, narrow-of-i16, i16-fits, minus-fits}
+use Rattle.numbers.proofs.Fit.{narrow-ud, narrow-of-i16}
 use Rattle.numbers.specs.Decimal.{decimal, signed}
 use Rattle.spelling.specs.Spelling.{longest_number}
 use Rattle.spelling.proofs.DigitLaws.{decimal-short}
@@ -35,50 +35,16 @@ above (negsuc n) l = absurd (omega (zed, negsuc-ud n, pos-ud 0))
 
 short : (z : ℤ) → nat_abs z < 65536 → length (signed z) ≤ longest_number
 unfolding signed
-short (pos n) b = omega (arith, decimal-short n (omega arith))
-short (negsuc n) b = omega (arith, decimal-short (suc n) (omega arith))
+short (pos n) b = omega (arith, decimal-short 4 n (omega arith))
+short (negsuc n) b = omega (arith, decimal-short 4 (suc n) (omega arith))
 
--- ---- as the machine has it: by 16 bits, by 32, and the other sign
+-- ---- as the machine has it, by 16 bits
 abbrev kept : ℤ → ℤ
 kept z = to_z w16 (of_z w16 z)
-
-abbrev wide : ℤ → ℤ
-wide z = to_z w32 (of_z w32 (kept z))
-
-abbrev minus : ℤ → ℤ
-minus z = to_z w32 (of_z w32 (pos 0 -ℤ wide z))
 
 module _ {z : ℤ} (f : SFits w16 z) where
   pub kept-is : kept z ≡ z
   kept-is = to_z-of_z f
-
-  pub wide_fits : SFits w32 (kept z)
-  wide_fits = rw kept-is (i16-fits f)
-
-  wide_is : wide z ≡ z
-  wide_is = to_z-of_z wide_fits ∙ kept-is
-
-  pub negated_fits : SFits w32 (pos 0 -ℤ wide z)
-  negated_fits = rw wide_is (minus-fits (narrow-of-i16 f))
-
-  minus_is : minus z ≡ pos 0 -ℤ z
-  minus_is = to_z-of_z negated_fits ∙ ap (λ (x : ℤ). pos 0 -ℤ x) wide_is
-
-  -- ---- how far it is from zero
-  pub wide-size : nat_abs (wide z) ≡ nat_abs z
-  wide-size = ap nat_abs wide_is
-
-  pub minus-size : nat_abs (minus z) ≡ nat_abs z
-  minus-size = ap nat_abs minus_is ∙ (let x = pos 0 -ℤ z in omega (arith, abs-ud x, abs-ud z, sub-ud (pos 0) z, pos-ud 0, side x, side z))
-
-  pub wide-cast : lt_z (wide z) (pos 0) ≡ false → T (non_neg (wide z)) × Fits w16 (nat_abs (wide z))
-  wide-cast t = (yes_non_neg {z = wide z} (lt_z-false t), rw wide-size (Fits-nat_abs tt f))
-
-  pub minus-cast : lt_z (wide z) (pos 0) ≡ true → T (non_neg (minus z)) × Fits w16 (nat_abs (minus z))
-  minus-cast t =
-      let l : z <ℤ pos 0 = lt_z-true (rw wide_is at t) in
-      let h : pos 0 ≤ℤ (pos 0 -ℤ z) = omega (zed, sub-ud (pos 0) z, pos-ud 0) in
-      (rw minus_is (yes_non_neg h), rw minus-size (Fits-nat_abs tt f))
 
   -- ---- its text
   module _ {n : ℕ} (e : n ≡ nat_abs (kept z)) where

@@ -1,12 +1,6 @@
--- Follows the code: a word in a row of bytes, the first of them; and how long words can be.
-use Rattle.std.specs.Prelude.{ℕ, ◌≤◌, ◌≡◌, List, length, take}
+-- Follows the code: how long words can be.
+use Rattle.std.specs.Prelude.{ℕ, length}
 use Rattle.lists.specs.Ascii.{ascii}
-use Rattle.spelling.specs.declared.Word.{Word}
-
-pub record Spells (t : List ℕ) (r : Word) : Type 0 where
-  pub size : r.1 ≡ length t
-  pub few : r.1 ≤ length r.0
-  pub text : take r.1 r.0 ≡ t
 
 -- the longest number of 16 bits, and the longest word of a kind
 abbrev pub longest_number : ℕ

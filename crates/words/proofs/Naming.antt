@@ -1,15 +1,20 @@
 -- Words and names looked up: among the kinds' words, and among the names of lines. Assumes nothing.
-use Prim.Native.Nat.{ℕ, suc, ◌+◌, ◌-◌, ◌<◌, ◌≤◌}
-use mathlib.Core.Path.{◌≡◌, refl, sym, ap, ◌∙◌}
+use Prim.Native.Nat.{ℕ, suc, ◌+◌, ◌-◌, ◌<◌, ◌≤◌, min}
+use mathlib.Core.Path.{◌≡◌, refl, sym, ap, subst, ◌∙◌}
 use mathlib.Core.Bool.{Bool, true, false, not, cond, ◌&&◌}
 use mathlib.Core.List.{List, [], ◌∷◌}
-use mathlib.Core.Option.{Option, none, some}
+use denote.Ref.{Bor}
 use native.Mathlib.Nat.{zero-add}
 use native.Mathlib.Omega.{arith}
 use lib.ListN.{length, drop, take, length-drop, drop_of_length-le}
 use lib.Seq.{drop-drop}
 use lib.Dec.{eqb, leb}
-use borrow.Author.Tests.{ne_eqb, le-leb, lt-leb, not-true, not-false}
+use borrow.Author.Tests.{leb-true}
+use Rattle.std.specs.Prelude.{Option, Some, None}
+use Rattle.std.specs.List.{find}
+use Rattle.std.specs.Option.{option_map, is_some}
+use Rattle.std.specs.Str.{bytes_eq}
+use Rattle.std.proofs.lemmas.Bool.{leb-false}
 use Rattle.lists.specs.Names.{same_bytes}
 use Rattle.kinds.specs.declared.Kind.{Kind}
 use Rattle.kinds.specs.Kinds.{row}
@@ -19,56 +24,87 @@ use Rattle.grammar.specs.Words.{word_length}
 use Rattle.grammar.proofs.ScanLaws.{word-inside}
 use Rattle.texts.specs.Plain.{plain_of}
 use Rattle.texts.specs.Texts.{operands_behind}
-use Rattle.words.specs.Operands.{counted}
-use Rattle.texts.specs.WordKinds.{kind_in, kind_named, is_none}
+use Rattle.words.specs.Operands.{behind_said}
+use Rattle.texts.specs.WordKinds.{worded, kind_in, kind_named, is_none}
 use Rattle.texts.specs.Places.{separates, first_word, is_plain_name, index_in, behind_line, behind_var, names_in}
+
+-- ---- equal bytes, as the library tests them
+
+pub equal-bytes : (u v : List ℕ) → same_bytes u v ≡ bytes_eq u v
+unfolding same_bytes
+equal-bytes [] [] = refl
+equal-bytes [] (c ∷ v) = refl
+equal-bytes (b ∷ u) [] = refl
+equal-bytes (b ∷ u) (c ∷ v) = ap (λ (t : Bool). eqb b c && t) (equal-bytes u v)
 
 -- ---- kinds
 
--- five kinds, each falling back on the next
-pub five : (w : List ℕ) (ks : List Kind) (a b c d e : Kind) {p q r s t u : Kind} →
-    p ≡ cond (same_bytes (plain_of a) w) a q → q ≡ cond (same_bytes (plain_of b) w) b r → r ≡ cond (same_bytes (plain_of c) w) c s → s ≡ cond (same_bytes (plain_of d) w) d t → t ≡ cond (same_bytes (plain_of e) w) e u → u ≡ kind_in ks w →
-    p ≡ kind_in (a ∷ b ∷ c ∷ d ∷ e ∷ ks) w
-unfolding kind_in
-five w ks a b c d e h1 h2 h3 h4 h5 h6 = rw (h1, h2, h3, h4, h5, h6)
+-- a row of the table: a word, and a kind
+abbrev Row : Type 0
+Row = Bor (List ℕ) × Kind
 
-pub no_kind : (w : List ℕ) → Kind.Unknown ≡ kind_in [] w
+abbrev AllRight : List Row → Type 0
+AllRight [] = Unit {0}
+AllRight (r ∷ rs) = (plain_of r.1 ≡ r.0.now) × AllRight rs
+
+abbrev kinds_of : List Row → List Kind
+kinds_of [] = []
+kinds_of (r ∷ rs) = r.1 ∷ kinds_of rs
+
+abbrev kind_at : Option Row → Kind
+kind_at None = Kind.Unknown
+kind_at (Some r) = r.1
+
+row-at : (r : Row) (o : Option Row) (k : Kind) (x y : Bool) → y ≡ x → kind_at o ≡ k → kind_at (cond x (Some r) o) ≡ cond y r.1 k
+row-at r o k true y e f = rw e
+row-at r o k false y e f = rw e f
+
+in-rows : (rs : List Row) (w : List ℕ) → AllRight rs → kind_at (find (λ r. bytes_eq r.0.now w) rs) ≡ kind_in (kinds_of rs) w
 unfolding kind_in
-no_kind w = refl
+in-rows [] w a = refl
+in-rows (r ∷ rs) w a =
+    row-at r (find (λ r. bytes_eq r.0.now w) rs) (kind_in (kinds_of rs) w) (bytes_eq r.0.now w) (same_bytes (plain_of r.1) w) (ap (λ (u : List ℕ). same_bytes u w) a.0 ∙ equal-bytes r.0.now w) (in-rows rs w a.1)
+
+-- what the search finds in the rows rs, which are those of the table
+module _ (w : List ℕ) (rs : List Row) {table : List Row} (t : rs ≡ table) (a : AllRight table) (k : kinds_of table ≡ worded) {o : Option (Bor Row)} (e : option_map (λ b. b.now) o ≡ find (λ r. bytes_eq r.0.now w) rs) where
+  pub kind-found : {b : Bor Row} → o ≡ Some b → b.now.1 ≡ kind_named w
+  unfolding kind_named
+  kind-found f = sym (ap (λ (p : Option (Bor Row)). kind_at (option_map (λ b. b.now) p)) f) ∙ ap kind_at e ∙ in-rows rs w (subst AllRight (sym t) a) ∙ ap (λ (ks : List Kind). kind_in ks w) (ap kinds_of t ∙ k)
+
+  pub kind-none : o ≡ None → Kind.Unknown ≡ kind_named w
+  unfolding kind_named
+  kind-none f = sym (ap (λ (p : Option (Bor Row)). kind_at (option_map (λ b. b.now) p)) f) ∙ ap kind_at e ∙ in-rows rs w (subst AllRight (sym t) a) ∙ ap (λ (ks : List Kind). kind_in ks w) (ap kinds_of t ∙ k)
 
 -- ---- plain names
 
-no-operands : (o : Option ℕ) → eqb (counted o) 0 ≡ is_none o
-no-operands none = refl
-no-operands (some n) = ne_eqb (suc n) 0 (omega arith)
+pub behind_none : (o : Option ℕ) → is_none (behind_said o) ≡ not (is_some o)
+behind_none None = refl
+behind_none (Some n) = refl
 
-module _ (w : List ℕ) where
-  pub name-long : most_name_bytes < length w → false ≡ is_plain_name w
-  unfolding is_plain_name
-  name-long h = go (name_right w)
-    where
-      go : (b : Bool) → false ≡ b && leb (length w) most_name_bytes && is_none (operands_behind (row (kind_named w)).shape)
-      go true = rw (lt-leb (length w) most_name_bytes h)
-      go false = refl
-
-  pub name-wrong : {b : Bool} → b ≡ name_right w → not b ≡ true → false ≡ is_plain_name w
-  unfolding is_plain_name
-  name-wrong e h = rw (sym e ∙ not-true _ h)
-
-  pub name-right : {b : Bool} {k : Kind} {n : ℕ} → length w ≤ most_name_bytes → b ≡ name_right w → not b ≡ false → k ≡ kind_named w → n ≡ counted (operands_behind (row k).shape) → eqb n 0 ≡ is_plain_name w
-  unfolding is_plain_name
-  name-right {n = n} l e h f g =
-      let q : eqb n 0 ≡ is_none (operands_behind (row (kind_named w)).shape) = ap (λ (m : ℕ). eqb m 0) (g ∙ ap (λ (j : Kind). counted (operands_behind (row j).shape)) f) ∙ no-operands (operands_behind (row (kind_named w)).shape) in
-      rw (sym e ∙ not-false _ h, le-leb (length w) most_name_bytes l) q
+pub plain_tests : (w : List ℕ) → is_plain_name w ≡ leb (length w) most_name_bytes && name_right w && is_none (operands_behind (row (kind_named w)).shape)
+unfolding is_plain_name
+plain_tests w = by (name_right w) (leb (length w) most_name_bytes) (is_none (operands_behind (row (kind_named w)).shape))
+  where
+    by : (x y z : Bool) → x && y && z ≡ y && x && z
+    by true true z = refl
+    by true false z = refl
+    by false true z = refl
+    by false false z = refl
 
 -- ---- the name of a line
 
 module _ (s : List ℕ) (line : ℕ) where
-  pub name-past : length s - line < behind_var → (length s ≤ length s) × (drop (length s) s ≡ drop behind_var (drop line s))
-  name-past h = (omega arith, drop_of_length-le s {i = length s} (omega arith) ∙ sym (drop-drop behind_var line s ∙ drop_of_length-le s {i = line + behind_var} (omega arith)))
-
-  pub name-there : line ≤ length s → behind_var ≤ length s - line → (line + behind_var ≤ length s) × (drop (line + behind_var) s ≡ drop behind_var (drop line s))
-  name-there l h = (omega arith, sym (drop-drop behind_var line s))
+  pub name_start : {n : ℕ} → n ≡ min (length s) (line + behind_var) → (n ≤ length s) × (drop n s ≡ drop behind_var (drop line s))
+  name_start {n} e = (omega arith, by (leb (length s) (line + behind_var)) refl ∙ sym (drop-drop behind_var line s))
+    where
+      by : (b : Bool) → leb (length s) (line + behind_var) ≡ b → drop n s ≡ drop (line + behind_var) s
+      by true h =
+          let l : length s ≤ line + behind_var = leb-true _ _ h in
+          drop_of_length-le s (omega arith) ∙ sym (drop_of_length-le s l)
+      by false h =
+          let l : line + behind_var < length s = leb-false _ _ h in
+          let k : n ≡ line + behind_var = omega arith in
+          ap (λ (j : ℕ). drop j s) k
 
   pub word-there : (start : ℕ) {end : ℕ} → drop start s ≡ drop behind_var (drop line s) → end ≡ start + word_length separates (drop start s) → take (end - start) (drop start s) ≡ first_word (drop behind_var (drop line s))
   unfolding first_word
@@ -96,12 +132,11 @@ name-none s w = refl
 
 -- the names of the first i lines are others; the next line stands at a place
 pub record Naming (text word : List ℕ) (count line i : ℕ) : Type 0 where
-  pub within : i ≤ count
   pub inside : line ≤ length text
   pub same : index_in (names_in count text) word ≡ i + index_in (names_in (count - i) (drop line text)) word
 
 pub naming-begin : (text word : List ℕ) (count : ℕ) → Naming text word count 0 0
-naming-begin text word count = record { within = omega arith; inside = omega arith; same = let e : count ≡ count - 0 = omega arith in ap (λ (n : ℕ). index_in (names_in n text) word) e ∙ sym (zero-add _) }
+naming-begin text word count = record { inside = omega arith; same = let e : count ≡ count - 0 = omega arith in ap (λ (n : ℕ). index_in (names_in n text) word) e ∙ sym (zero-add _) }
 
 module _ {text word : List ℕ} {count line i : ℕ} (w : Naming text word count line i) where
   module _ {name : List ℕ} {b : Bool} (h : i < count) (n : name ≡ first_word (drop behind_var (drop line text))) (e : b ≡ same_bytes name word) where
@@ -120,9 +155,9 @@ module _ {text word : List ℕ} {count line i : ℕ} (w : Naming text word count
     naming-turn f {next} l =
         let r : count - (i + 1) ≡ count - suc i = omega arith in
         let q : index_in (names_in (count - (i + 1)) (drop next text)) word ≡ index_in (names_in (count - suc i) (behind_line (drop line text))) word = (λ j. index_in (names_in (r j) (l.1 j)) word) in
-        record { within = omega arith; inside = l.0; same = omega (arith, w.same, one_more ∙ name-later (count - suc i) (drop line text) word (tested ∙ f)) }
+        record { inside = l.0; same = omega (arith, w.same, one_more ∙ name-later (count - suc i) (drop line text) word (tested ∙ f)) }
 
-  pub naming-end : count ≤ i → i ≡ index_in (names_in count text) word
-  naming-end h =
+  pub naming-end : i ≤ count → count ≤ i → count ≡ index_in (names_in count text) word
+  naming-end l h =
       let m : count - i ≡ 0 = omega arith in
       omega (arith, w.same, ap (λ (j : ℕ). index_in (names_in j (drop line text)) word) m ∙ name-none (drop line text) word)

@@ -1,16 +1,43 @@
--- The loops over a text's bytes, turn by turn: to a word's end, to a line's end, and over all. Assumes nothing.
+-- The library's searches over a text's bytes, in the specs' words: to a word's end, to a line's end, and over all. Assumes nothing.
 use Prim.Native.Nat.{ℕ, suc, ◌+◌, ◌<◌, ◌≤◌}
 use mathlib.Core.Path.{◌≡◌, refl, sym, ap, ◌∙◌}
-use mathlib.Core.Bool.{Bool, true, false}
+use mathlib.Core.Bool.{Bool, true, false, not, cond}
 use mathlib.Core.List.{List, [], ◌∷◌}
-use native.Mathlib.Numerals.{add-one}
 use native.Mathlib.Omega.{arith}
-use lib.ListN.{length, get_or, drop, drop_of_length-le}
-use lib.Seq.{drop-cons}
-use borrow.Author.Tests.{eq-eqb, ne_eqb}
+use lib.ListN.{length, drop, drop_of_length-le, length-drop}
+use lib.Seq.{drop-drop}
+use lib.Dec.{eqb, ltb}
+use borrow.Author.Tests.{eq-eqb, ne_eqb, eqb-true, ltb-true}
+use Rattle.std.specs.Prelude.{Option, Some, None}
+use Rattle.std.specs.List.{position, position_or_len, count_by}
+use Rattle.std.proofs.lemmas.Bool.{eqb-false, ltb-false}
+use Rattle.std.proofs.lemmas.List.Recursion.{is_position_or_len, is_count_by}
+use Rattle.std.proofs.lemmas.List.Sums.{prefix_len-le-length}
 use Rattle.grammar.specs.Words.{word_length}
 use Rattle.texts.specs.Places.{separates, behind_line}
 use Rattle.texts.specs.Counts.{occurrences}
+
+-- ---- the first byte that passes
+
+some-is : (b : Bool) (n : ℕ) {k : ℕ} → cond b (Some n) None ≡ Some k → (b ≡ true) × (n ≡ k)
+some-is true n e = (refl, cc)
+some-is false n e = cc
+
+none-is : (b : Bool) (n : ℕ) → cond b (Some n) None ≡ None → b ≡ false
+none-is true n e = cc
+none-is false n e = refl
+
+module _ (p : ℕ → Bool) (s : List ℕ) {o : Option ℕ} (f : o ≡ position p s) where
+  first-here : {k : ℕ} → o ≡ Some k → (k < length s) × (position_or_len p s ≡ k)
+  first-here {k} e =
+      let w : (ltb (position_or_len p s) (length s) ≡ true) × (position_or_len p s ≡ k) = some-is _ _ (sym f ∙ e) in
+      let l : position_or_len p s < length s = ltb-true _ _ w.0 in
+      (omega (arith, w.1), w.1)
+
+  first-none : o ≡ None → position_or_len p s ≡ length s
+  first-none e =
+      let l : length s ≤ position_or_len p s = ltb-false _ _ (none-is _ _ (sym f ∙ e)) in
+      omega (arith, prefix_len-le-length (λ c. not (p c)) s)
 
 -- ---- to a word's end
 
@@ -22,33 +49,23 @@ pub word_more : (c : ℕ) (s : List ℕ) → separates c ≡ false → word_leng
 unfolding word_length
 word_more c s e = rw (e, word_length)
 
-word_none : word_length separates [] ≡ 0
+length-at : (b : Bool) (n : ℕ) → elim b [ true ↦ 0 | false ↦ suc n ] ≡ cond b 0 (1 + n)
+length-at true n = refl
+length-at false n = omega arith
+
+word-first : (s : List ℕ) → word_length separates s ≡ position_or_len separates s
 unfolding word_length
-word_none = refl
+word-first = is_position_or_len (word_length separates) separates refl (λ c s. length-at (separates c) (word_length separates s))
 
--- the word's end is the first from k on
-pub record Ending (s : List ℕ) (start k : ℕ) : Type 0 where
-  pub inside : k ≤ length s
-  pub same : start + word_length separates (drop start s) ≡ k + word_length separates (drop k s)
+module _ (s : List ℕ) (start : ℕ) {part : List ℕ} (e : part ≡ drop start s) {o : Option ℕ} (f : o ≡ position separates part) where
+  size : position_or_len separates part ≡ word_length separates (drop start s)
+  size = sym (word-first part) ∙ ap (word_length separates) e
 
-pub ending-begin : (s : List ℕ) {start : ℕ} → start ≤ length s → Ending s start start
-ending-begin s h = record { inside = h; same = refl }
+  pub word-found : {k : ℕ} → o ≡ Some k → start + k ≡ start + word_length separates (drop start s)
+  word-found g = omega (arith, size, (first-here separates part f g).1)
 
-module _ {s : List ℕ} {start k : ℕ} (w : Ending s start k) where
-  pub ending_here : {b : Bool} → k < length s → b ≡ separates (get_or s k 0) → b ≡ true → k ≡ start + word_length separates (drop start s)
-  ending_here h e t =
-      let n : word_length separates (drop k s) ≡ 0 = ap (word_length separates) (drop-cons s k 0 h) ∙ word_over _ _ (sym e ∙ t) in
-      omega (arith, w.same)
-
-  pub ending-turn : {b : Bool} → k < length s → b ≡ separates (get_or s k 0) → b ≡ false → Ending s start (k + 1)
-  ending-turn h e f =
-      let n : word_length separates (drop k s) ≡ suc (word_length separates (drop (suc k) s)) = ap (word_length separates) (drop-cons s k 0 h) ∙ word_more _ _ (sym e ∙ f) in
-      record { inside = omega arith; same = rw add-one (let m : start + word_length separates (drop start s) ≡ suc k + word_length separates (drop (suc k) s) = omega (arith, w.same) in m) }
-
-  pub ending-end : length s ≤ k → k ≡ start + word_length separates (drop start s)
-  ending-end h =
-      let n : word_length separates (drop k s) ≡ 0 = ap (word_length separates) (drop_of_length-le s h) ∙ word_none in
-      omega (arith, w.same)
+  pub word-whole : start ≤ length s → o ≡ None → length s ≡ start + word_length separates (drop start s)
+  word-whole l g = omega (arith, size, first-none separates part f g, ap length e, length-drop start s)
 
 -- ---- to a line's end
 
@@ -60,63 +77,46 @@ pub line-more : (c : ℕ) (s : List ℕ) → (c ≡ 10 → ⊥) → behind_line 
 unfolding behind_line
 line-more c s n = rw (ne_eqb c 10 n, behind_line)
 
-line-none : behind_line [] ≡ []
+abbrev past : List ℕ → ℕ
+past s = suc (position_or_len (λ c. eqb c 10) s)
+
+line-at : (c : ℕ) (s t : List ℕ) (b : Bool) → t ≡ drop (past s) s → elim b [ true ↦ s | false ↦ t ] ≡ drop (suc (cond (not b) (1 + position_or_len (λ c. eqb c 10) s) 0)) (c ∷ s)
+line-at c s t true e = refl
+line-at c s t false e = let n : 1 + position_or_len (λ c. eqb c 10) s ≡ past s = omega arith in e ∙ ap (λ (k : ℕ). drop k s) (sym n)
+
+line-first : (s : List ℕ) → behind_line s ≡ drop (past s) s
 unfolding behind_line
-line-none = refl
+line-first [] = refl
+line-first (c ∷ s) = line-at c s (behind_line s) (eqb c 10) (line-first s)
 
--- the line feed that is looked for is the first from k on
-pub record Passing (s : List ℕ) (from k : ℕ) : Type 0 where
-  pub inside : k ≤ length s
-  pub same : behind_line (drop from s) ≡ behind_line (drop k s)
+module _ (s : List ℕ) (from : ℕ) {part : List ℕ} (e : part ≡ drop from s) {o : Option ℕ} (f : o ≡ position (λ c. eqb c 10) part) where
+  behind : behind_line (drop from s) ≡ drop (past part) (drop from s)
+  behind = sym (ap behind_line e) ∙ line-first part ∙ ap (drop (past part)) e
 
-pub passing-begin : (s : List ℕ) {from : ℕ} → from ≤ length s → Passing s from from
-passing-begin s h = record { inside = h; same = refl }
+  pub line-found : {k : ℕ} → from ≤ length s → o ≡ Some k → (from + k + 1 ≤ length s) × (drop (from + k + 1) s ≡ behind_line (drop from s))
+  line-found {k} l g =
+      let w = first-here (λ c. eqb c 10) part f g in
+      let n : from + past part ≡ from + k + 1 = omega (arith, w.1) in
+      (omega (arith, w.0, ap length e, length-drop from s), sym (behind ∙ drop-drop (past part) from s ∙ ap (λ (j : ℕ). drop j s) n))
 
-module _ {s : List ℕ} {from k : ℕ} (w : Passing s from k) where
-  pub passing-here : k < length s → get_or s k 0 ≡ 10 → (k + 1 ≤ length s) × (drop (k + 1) s ≡ behind_line (drop from s))
-  passing-here h e = (omega arith, rw add-one (sym (w.same ∙ ap behind_line (drop-cons s k 0 h) ∙ line-over _ _ e)))
-
-  pub passing-turn : k < length s → (get_or s k 0 ≡ 10 → ⊥) → Passing s from (k + 1)
-  passing-turn h n = record { inside = omega arith; same = rw add-one (w.same ∙ ap behind_line (drop-cons s k 0 h) ∙ line-more _ _ n) }
-
-  pub passing-end : length s ≤ k → (k ≤ length s) × (drop k s ≡ behind_line (drop from s))
-  passing-end h = (w.inside, drop_of_length-le s h ∙ sym (w.same ∙ ap behind_line (drop_of_length-le s h) ∙ line-none))
+  pub line-whole : from ≤ length s → o ≡ None → (length s ≤ length s) × (drop (length s) s ≡ behind_line (drop from s))
+  line-whole l g =
+      let w : position_or_len (λ c. eqb c 10) part ≡ length part = first-none (λ c. eqb c 10) part f g in
+      (omega arith, drop_of_length-le s (omega arith) ∙ sym (behind ∙ drop-drop (past part) from s ∙ drop_of_length-le s (omega (arith, w, ap length e, length-drop from s))))
 
 -- ---- over all
 
--- how often the byte stands from k on is to be added to n
-pub record Counting (b : ℕ) (s : List ℕ) (n k : ℕ) : Type 0 where
-  pub inside : k ≤ length s
-  pub few : n ≤ k
-  pub same : occurrences b s ≡ n + occurrences b (drop k s)
+eqb-turned : (a b : ℕ) → eqb a b ≡ eqb b a
+eqb-turned a b = by (eqb a b) refl
+  where
+    by : (x : Bool) → eqb a b ≡ x → eqb a b ≡ eqb b a
+    by true e = e ∙ sym (eq-eqb b a (sym (eqb-true a b e)))
+    by false e = e ∙ sym (ne_eqb b a (λ h. eqb-false a b e (sym h)))
 
-pub counting-begin : (b : ℕ) (s : List ℕ) → Counting b s 0 0
-counting-begin b s = record { inside = omega arith; few = omega arith; same = omega arith }
+count-at : (x y : Bool) (n : ℕ) → x ≡ y → elim x [ true ↦ suc n | false ↦ n ] ≡ cond y (1 + n) n
+count-at true y n e = rw (sym e) (omega arith)
+count-at false y n e = rw (sym e)
 
-once : (b c : ℕ) (s : List ℕ) → b ≡ c → occurrences b (c ∷ s) ≡ suc (occurrences b s)
+pub occurrences_counted : (b : ℕ) (s : List ℕ) → occurrences b s ≡ count_by (λ c. eqb c b) s
 unfolding occurrences
-once b c s e = rw (eq-eqb b c e, occurrences)
-
-not-once : (b c : ℕ) (s : List ℕ) → (b ≡ c → ⊥) → occurrences b (c ∷ s) ≡ occurrences b s
-unfolding occurrences
-not-once b c s n = rw (ne_eqb b c n, occurrences)
-
-never : (b : ℕ) → occurrences b [] ≡ 0
-unfolding occurrences
-never b = refl
-
-module _ {b : ℕ} {s : List ℕ} {n k : ℕ} (w : Counting b s n k) where
-  pub counting-one : k < length s → b ≡ get_or s k 0 → {j : ℕ} → j ≡ n + 1 → Counting b s j (k + 1)
-  counting-one h e {j} i =
-      let m : occurrences b (drop k s) ≡ suc (occurrences b (drop (suc k) s)) = ap (occurrences b) (drop-cons s k 0 h) ∙ once b _ _ e in
-      record { inside = omega arith; few = omega (arith, w.few); same = rw (add-one k) (let q : occurrences b s ≡ j + occurrences b (drop (suc k) s) = omega (arith, w.same) in q) }
-
-  pub counting-none : k < length s → (b ≡ get_or s k 0 → ⊥) → {j : ℕ} → j ≡ n → Counting b s j (k + 1)
-  counting-none h e {j} i =
-      let m : occurrences b (drop k s) ≡ occurrences b (drop (suc k) s) = ap (occurrences b) (drop-cons s k 0 h) ∙ not-once b _ _ e in
-      record { inside = omega arith; few = omega (arith, w.few); same = rw (add-one k) (let q : occurrences b s ≡ j + occurrences b (drop (suc k) s) = omega (arith, w.same) in q) }
-
-  pub counting-end : length s ≤ k → n ≡ occurrences b s
-  counting-end h =
-      let m : occurrences b (drop k s) ≡ 0 = ap (occurrences b) (drop_of_length-le s h) ∙ never b in
-      omega (arith, w.same)
+occurrences_counted b = is_count_by (occurrences b) (λ c. eqb c b) refl (λ c s. count-at (eqb b c) (eqb c b) (occurrences b s) (eqb-turned b c))

@@ -1,25 +1,29 @@
 -- Decimal numbers as the code tests and reads them, digit by digit. Assumes nothing.
 use Prim.Native.Nat.{ℕ, suc, ◌+◌, ◌-◌, ◌*◌, ◌<◌, ◌≤◌}
 use mathlib.Core.Path.{◌≡◌, refl, sym, ap, ◌∙◌}
-use mathlib.Core.Bool.{Bool, true, false, not, ◌&&◌, and-false, false≢true}
+use mathlib.Core.Bool.{Bool, true, false, not, cond, ◌&&◌, and-false, false≢true}
 use mathlib.Core.List.{List, [], ◌∷◌}
 use native.Mathlib.Numerals.{add-one}
 use native.Mathlib.Omega.{arith}
 use lib.Dec.{eqb, leb}
-use lib.IntN.{pos, neg_ℤ, ◌-ℤ◌, +ℤ_idl}
-use mir.Syntax.{w16, w32}
-use mir.Val.{SFits, to_z, of_z}
-use mir.Facts.{to_z-of_z, to_z_pos}
+use lib.IntN.{pos, neg_ℤ}
 use lib.ListN.{length, get_or, take, drop, drop_of_length-le}
 use lib.Seq.{drop-cons}
-use borrow.Author.Rules.{part_to_end}
-use borrow.Author.Tests.{eq-eqb, ne_eqb, le-leb, lt-leb, leb-true, not-true}
+use borrow.Author.Tests.{ne_eqb, le-leb, lt-leb, leb-true}
+use Rattle.std.specs.Char.{is_ascii_digit}
+use Rattle.std.specs.Str.{bytes_eq}
 use Rattle.lists.proofs.TestLaws.{both, and}
-use Rattle.numbers.specs.Ranges.{Narrow}
-use Rattle.numbers.proofs.Zed.{zed, neg-ud, pos-ud, negsuc-ud}
-use Rattle.numbers.proofs.Fit.{narrow-fits, i16-of-narrow}
 use Rattle.texts.specs.Numbers.{is_digit, all_digits, value_from, spare_zero, is_decimal, zero_first, is_number, number_of}
-use Rattle.texts.proofs.NumberLaws.{value_grows}
+use Rattle.texts.proofs.NumberLaws.{digit-bounds, value_grows}
+
+-- ---- digits
+
+ascii-digit : (c : ℕ) → is_ascii_digit c ≡ is_digit c
+unfolding is_digit
+ascii-digit c = refl
+
+pub digit_least : (c : ℕ) → is_digit c ≡ true → 48 ≤ c
+digit_least c e = (digit-bounds c e).0
 
 -- ---- digits whose number is at most so much
 
@@ -48,82 +52,51 @@ digits-over most n h = le-leb n most h
 
 -- the test is that of the digits from k on, behind n
 pub record Bounding (most : ℕ) (s : List ℕ) (n k : ℕ) : Type 0 where
-  pub inside : k ≤ length s
   pub low : n ≤ most
   pub same : at_most most 0 s ≡ at_most most n (drop k s)
 
 pub bounding-begin : (most : ℕ) (s : List ℕ) → Bounding most s 0 0
-bounding-begin most s = record { inside = omega arith; low = omega arith; same = refl }
+bounding-begin most s = record { low = omega arith; same = refl }
 
 module _ {most : ℕ} {s : List ℕ} {n k : ℕ} (w : Bounding most s n k) where
-  pub bounding-fits : most ≤ 32768 → n ≤ 32768
-  bounding-fits h = omega (arith, w.low)
-
   split : k < length s → at_most most 0 s ≡ at_most most n (get_or s k 0 ∷ drop (suc k) s)
   split h = w.same ∙ ap (at_most most n) (drop-cons s k 0 h)
 
-  module _ {d : Bool} (h : k < length s) (e : d ≡ is_digit (get_or s k 0)) where
-    pub bounding-none : not d ≡ true → false ≡ all_digits s && leb (value_from 0 s) most
-    bounding-none f = sym (sym (at-most-is most s) ∙ split h ∙ digit-none most n _ _ (sym e ∙ not-true _ f))
+  module _ {d : Bool} (h : k < length s) (e : d ≡ is_ascii_digit (get_or s k 0)) where
+    tested : d ≡ is_digit (get_or s k 0)
+    tested = e ∙ ascii-digit _
+
+    pub bounding-none : d ≡ false → false ≡ all_digits s && leb (value_from 0 s) most
+    bounding-none f = sym (sym (at-most-is most s) ∙ split h ∙ digit-none most n _ _ (sym tested ∙ f))
+
+    pub bounding-fits : most ≤ 32768 → d ≡ true → (n ≤ 32768) × (is_digit (get_or s k 0) ≡ true)
+    bounding-fits l f = (omega (arith, w.low), sym tested ∙ f)
 
     module _ {m : ℕ} (f : d ≡ true) (q : m ≡ 10 * n + (get_or s k 0 - 48)) where
       turned : at_most most 0 s ≡ at_most most m (drop (suc k) s)
-      turned = split h ∙ digit-more most n _ _ (sym e ∙ f) ∙ ap (λ (j : ℕ). at_most most j (drop (suc k) s)) (sym q)
+      turned = split h ∙ digit-more most n _ _ (sym tested ∙ f) ∙ ap (λ (j : ℕ). at_most most j (drop (suc k) s)) (sym q)
 
       pub bounding-over : most < m → false ≡ all_digits s && leb (value_from 0 s) most
       bounding-over l = sym (sym (at-most-is most s) ∙ turned ∙ too_much most m _ l)
 
       pub bounding-turn : m ≤ most → Bounding most s m (k + 1)
-      bounding-turn l = record { inside = omega arith; low = l; same = rw add-one turned }
+      bounding-turn l = record { low = l; same = rw add-one turned }
 
   pub bounding-end : length s ≤ k → true ≡ all_digits s && leb (value_from 0 s) most
   bounding-end h = sym (sym (at-most-is most s) ∙ w.same ∙ ap (at_most most n) (drop_of_length-le s h) ∙ digits-over most n w.low)
 
 -- ---- decimal numbers
 
-pub zero-none : (s : List ℕ) → length s ≡ 0 → false ≡ zero_first s
-zero-none [] e = refl
-zero-none (c ∷ s) e = absurd (omega arith)
-
-pub zero-some : (s : List ℕ) → (length s ≡ 0 → ⊥) → eqb (get_or s 0 0) 48 ≡ zero_first s
-zero-some [] n = absurd (n refl)
-zero-some (c ∷ s) n = refl
-
-pub spare-none : (s : List ℕ) → length s < 2 → false ≡ spare_zero s
-spare-none [] h = refl
-spare-none (c ∷ []) h = refl
-spare-none (c ∷ d ∷ s) h = absurd (omega arith)
-
-pub spare-some : (s : List ℕ) → 2 ≤ length s → zero_first s ≡ spare_zero s
-spare-some [] h = absurd (omega arith)
-spare-some (c ∷ []) h = absurd (omega arith)
-spare-some (c ∷ d ∷ s) h = refl
-
-module _ (most : ℕ) (s : List ℕ) where
-  pub decimal-none : length s ≡ 0 → false ≡ is_decimal most s
-  unfolding is_decimal
-  decimal-none e = go s e
-    where
-      go : (s : List ℕ) → length s ≡ 0 → false ≡ is_decimal most s
-      go [] e = refl
-      go (c ∷ s) e = absurd (omega arith)
-
-  module _ {z : Bool} (n : length s ≡ 0 → ⊥) (e : z ≡ spare_zero s) where
-    pub decimal-spare : z ≡ true → false ≡ is_decimal most s
-    unfolding is_decimal
-    decimal-spare f = go s n (sym e ∙ f)
-      where
-        go : (s : List ℕ) → (length s ≡ 0 → ⊥) → spare_zero s ≡ true → false ≡ is_decimal most s
-        go [] n f = refl
-        go (c ∷ s) n f = rw (f, and-false)
-
-    pub decimal-more : z ≡ false → all_digits s && leb (value_from 0 s) most ≡ is_decimal most s
-    unfolding is_decimal
-    decimal-more f = go s n (sym e ∙ f)
-      where
-        go : (s : List ℕ) → (length s ≡ 0 → ⊥) → spare_zero s ≡ false → all_digits s && leb (value_from 0 s) most ≡ is_decimal most s
-        go [] n f = absurd (n refl)
-        go (c ∷ s) n f = rw f
+pub decimal_tests : (most : ℕ) (s : List ℕ) → is_decimal most s ≡ not (eqb (length s) 0) && not (spare_zero s) && (all_digits s && leb (value_from 0 s) most)
+unfolding is_decimal
+decimal_tests most [] = refl
+decimal_tests most (c ∷ s) = rw (ne_eqb (suc (length s)) 0 (omega arith)) (by (all_digits (c ∷ s)) (not (spare_zero (c ∷ s))) (leb (value_from 0 (c ∷ s)) most))
+  where
+    by : (x y z : Bool) → x && (y && z) ≡ y && (x && z)
+    by true true z = refl
+    by true false z = refl
+    by false true z = refl
+    by false false z = refl
 
 -- what a decimal number gives
 pub decimal-parts : (most : ℕ) (s : List ℕ) → is_decimal most s ≡ true → (all_digits s ≡ true) × (value_from 0 s ≤ most)
@@ -145,13 +118,12 @@ decimal-wider (c ∷ s) e =
 -- ---- their sum: n stands for the first k digits
 
 pub record Summing (s : List ℕ) (n k : ℕ) : Type 0 where
-  pub inside : k ≤ length s
   pub digits : all_digits (drop k s) ≡ true
   pub low : value_from 0 s ≤ 32768
   pub same : value_from 0 s ≡ value_from n (drop k s)
 
 pub summing-begin : (s : List ℕ) → is_decimal 32768 s ≡ true → Summing s 0 0
-summing-begin s e = let w = decimal-parts 32768 s e in record { inside = omega arith; digits = w.0; low = w.1; same = refl }
+summing-begin s e = let w = decimal-parts 32768 s e in record { digits = w.0; low = w.1; same = refl }
 
 first-digit : (c : ℕ) (s : List ℕ) → all_digits (c ∷ s) ≡ true → (is_digit c ≡ true) × (all_digits s ≡ true)
 unfolding all_digits
@@ -166,7 +138,6 @@ module _ {s : List ℕ} {n k : ℕ} (w : Summing s n k) where
 
   pub summing-turn : k < length s → {m : ℕ} → m ≡ 10 * n + (get_or s k 0 - 48) → Summing s m (k + 1)
   summing-turn h {m} e = record {
-    inside = omega arith;
     digits = rw add-one (here h).1;
     low = w.low;
     same = rw add-one (w.same ∙ ap (value_from n) (drop-cons s k 0 h) ∙ ap (λ (j : ℕ). value_from j (drop (suc k) s)) (sym e));
@@ -179,81 +150,36 @@ module _ {s : List ℕ} {n k : ℕ} (w : Summing s n k) where
 
 -- ---- numbers with their sign
 
-pub number-none : (s : List ℕ) → length s ≡ 0 → false ≡ is_number s
-unfolding is_number
-number-none [] e = refl
-number-none (c ∷ s) e = absurd (omega arith)
+-- the bytes begin with a minus sign
+abbrev pub minus_first : List ℕ → Bool
+minus_first s = bytes_eq (take 1 s) (45 ∷ [])
 
-pub number-some : (s : List ℕ) → is_number s ≡ true → 0 < length s
-unfolding is_number
-number-some [] e = absurd (false≢true e)
-number-some (c ∷ s) e = omega arith
+minus-at : (c : ℕ) (s : List ℕ) {A : Type 0} (x y : A) → elim (eqb c 45) [ true ↦ x | false ↦ y ] ≡ cond (minus_first (c ∷ s)) x y
+minus-at c s x y = by (eqb c 45)
+  where
+    by : (b : Bool) → elim b [ true ↦ x | false ↦ y ] ≡ cond (b && true) x y
+    by true = refl
+    by false = refl
 
--- with a minus sign
-module _ (s : List ℕ) {part : List ℕ} (h : 0 < length s) (e : get_or s 0 0 ≡ 45) (p : part ≡ take (length s - 1) (drop 1 s)) where
-  signed_rest : (t : List ℕ) → 0 < length t → get_or t 0 0 ≡ 45 → is_number t ≡ not (zero_first (drop 1 t)) && is_decimal 32768 (drop 1 t)
-  unfolding is_number
-  signed_rest [] h e = absurd (omega arith)
-  signed_rest (c ∷ t) h e = rw (eq-eqb c 45 e, is_number)
+pub signed_tests : (s : List ℕ) → is_number s ≡ cond (minus_first s) (not (zero_first (drop 1 s)) && is_decimal 32768 (drop 1 s)) (is_decimal 32767 s)
+unfolding is_number is_decimal
+signed_tests [] = refl
+signed_tests (c ∷ s) = minus-at c s (not (zero_first s) && is_decimal 32768 s) (is_decimal 32767 (c ∷ s))
 
-  signed_of : (t : List ℕ) → 0 < length t → get_or t 0 0 ≡ 45 → number_of t ≡ neg_ℤ (pos (value_from 0 (drop 1 t)))
-  unfolding number_of
-  signed_of [] h e = absurd (omega arith)
-  signed_of (c ∷ t) h e = rw (eq-eqb c 45 e, number_of)
+module _ (s : List ℕ) (e : is_number s ≡ true) where
+  pub minus_decimal : minus_first s ≡ true → is_decimal 32768 (drop 1 s) ≡ true
+  minus_decimal m = (both (not (zero_first (drop 1 s))) _ (sym (signed_tests s ∙ ap (λ (b : Bool). cond b (not (zero_first (drop 1 s)) && is_decimal 32768 (drop 1 s)) (is_decimal 32767 s)) m) ∙ e)).1
 
-  lent : part ≡ drop 1 s
-  lent = p ∙ part_to_end s 1
+  plain : minus_first s ≡ false → is_decimal 32767 s ≡ true
+  plain m = sym (signed_tests s ∙ ap (λ (b : Bool). cond b (not (zero_first (drop 1 s)) && is_decimal 32768 (drop 1 s)) (is_decimal 32767 s)) m) ∙ e
 
-  pub signed-number : {r : Bool} → r ≡ not (zero_first part) && is_decimal 32768 part → r ≡ is_number s
-  signed-number q = q ∙ ap (λ (u : List ℕ). not (zero_first u) && is_decimal 32768 u) lent ∙ sym (signed_rest s h e)
+  pub plain_decimal : minus_first s ≡ false → is_decimal 32768 s ≡ true
+  plain_decimal m = decimal-wider s (plain m)
 
-  pub signed_decimal : is_number s ≡ true → is_decimal 32768 part ≡ true
-  signed_decimal t = ap (is_decimal 32768) lent ∙ (both (not (zero_first (drop 1 s))) _ (sym (signed_rest s h e) ∙ t)).1
+  pub plain_small : minus_first s ≡ false → value_from 0 s < 32768
+  plain_small m = omega (arith, (decimal-parts 32767 s (plain m)).1)
 
-  pub signed-value : {n : ℕ} → n ≡ value_from 0 part → neg_ℤ (pos n) ≡ number_of s
-  signed-value q = ap (λ (m : ℕ). neg_ℤ (pos m)) (q ∙ ap (value_from 0) lent) ∙ sym (signed_of s h e)
-
--- without one
-module _ (s : List ℕ) (h : 0 < length s) (n : get_or s 0 0 ≡ 45 → ⊥) where
-  plain-is : (t : List ℕ) → 0 < length t → (get_or t 0 0 ≡ 45 → ⊥) → is_number t ≡ is_decimal 32767 t
-  unfolding is_number
-  plain-is [] h n = absurd (omega arith)
-  plain-is (c ∷ t) h n = rw (ne_eqb c 45 n, is_number)
-
-  plain_of : (t : List ℕ) → 0 < length t → (get_or t 0 0 ≡ 45 → ⊥) → number_of t ≡ pos (value_from 0 t)
-  unfolding number_of
-  plain_of [] h n = absurd (omega arith)
-  plain_of (c ∷ t) h n = rw (ne_eqb c 45 n, number_of)
-
-  pub plain-number : {r : Bool} → r ≡ is_decimal 32767 s → r ≡ is_number s
-  plain-number q = q ∙ sym (plain-is s h n)
-
-  plain-decimal : is_number s ≡ true → is_decimal 32767 s ≡ true
-  plain-decimal t = sym (plain-is s h n) ∙ t
-
-  pub plain-wider : is_number s ≡ true → is_decimal 32768 s ≡ true
-  plain-wider t = decimal-wider s (plain-decimal t)
-
-  pub plain_fits : is_number s ≡ true → {m : ℕ} → m ≡ value_from 0 s → m < 32768
-  plain_fits t e = omega (arith, (decimal-parts 32767 s (plain-decimal t)).1)
-
-  pub plain_value : {m : ℕ} → m ≡ value_from 0 s → pos m ≡ number_of s
-  plain_value e = ap pos e ∙ sym (plain_of s h n)
-
--- ---- `-(n as i32)` as an i16, step by step as the machine has it
-
-module _ (n : ℕ) (h : n ≤ 32768) where
-  minus_is : pos 0 -ℤ to_z w32 n ≡ neg_ℤ (pos n)
-  minus_is = let l : n < 2147483648 = omega arith in rw (to_z_pos w32 l) (+ℤ_idl _)
-
-  minus-narrow : Narrow (neg_ℤ (pos n))
-  minus-narrow = omega (zed, neg-ud (pos n), pos-ud n, pos-ud 32767, negsuc-ud 32767)
-
-  pub minus-fits : SFits w32 (pos 0 -ℤ to_z w32 n)
-  minus-fits = rw minus_is (narrow-fits minus-narrow)
-
-  pub minus-fits16 : SFits w16 (to_z w32 (of_z w32 (pos 0 -ℤ to_z w32 n)))
-  minus-fits16 = rw (to_z-of_z minus-fits, minus_is) (i16-of-narrow minus-narrow)
-
-  pub minus-value : to_z w16 (of_z w16 (to_z w32 (of_z w32 (pos 0 -ℤ to_z w32 n)))) ≡ neg_ℤ (pos n)
-  minus-value = to_z-of_z minus-fits16 ∙ to_z-of_z minus-fits ∙ minus_is
+pub value_tests : (s : List ℕ) → number_of s ≡ cond (minus_first s) (neg_ℤ (pos (value_from 0 (drop 1 s)))) (pos (value_from 0 s))
+unfolding number_of
+value_tests [] = refl
+value_tests (c ∷ s) = minus-at c s (neg_ℤ (pos (value_from 0 s))) (pos (value_from 0 (c ∷ s)))

@@ -1,15 +1,14 @@
 // The words of a plain text: where they end, and what they are.
 #![tactic(auto)]
 
-ghost use Rattle.std.specs.Prelude.{◌≡◌, true, not, cond, ◌&&◌, ◌+◌, ◌-◌, ◌*◌, ◌≤◌, leb, pos, neg_ℤ, length, drop};
-ghost use Rattle.lists.specs.Names.{same_bytes};
+ghost use Rattle.std.specs.Prelude.{◌≡◌, true, not, ◌&&◌, ◌+◌, ◌-◌, ◌*◌, ◌≤◌, leb, pos, neg_ℤ, length, drop};
 ghost use Rattle.kinds.specs.Kinds.{row};
 ghost use Rattle.texts.specs.Texts.{operands_behind};
 ghost use Rattle.grammar.specs.Words.{word_length};
 ghost use Rattle.texts.specs.Numbers.{is_digit, all_digits, value_from, spare_zero, is_decimal, zero_first, is_number, number_of};
-ghost use Rattle.texts.specs.WordKinds.{worded, kind_in, kind_named};
+ghost use Rattle.texts.specs.WordKinds.{kind_named};
 ghost use Rattle.texts.specs.Places.{separates, first_word, behind_var, behind_line, is_plain_name, index_in, names_in};
-ghost use Rattle.words.specs.Operands.{counted};
+ghost use Rattle.words.specs.Operands.{behind_said, counted};
 ghost use Rattle.texts.specs.Counts.{occurrences};
 
 use kinds::{Kind, Shape};
@@ -18,6 +17,7 @@ use layout::MOST_NAME_BYTES;
 // The bytes before a line's name: `var` and a space.
 const NAME_START: usize = 4;
 
+#[tactic(auto, unfolding(texts::specs::Places::separates))]
 fn separates(c: u8) -> bool
     ensures { result ≡ separates c }
 {
@@ -29,66 +29,43 @@ pub fn word_end(text: &[u8], start: usize) -> usize
     requires { start ≤ length text.now }
     ensures { result ≡ start + word_length separates (drop start text.now) }
 {
-    let mut k = start;
-    while k < text.len() {
-        if separates(text[k]) {
-            return k;
-        }
-        k += 1;
+    match text[start..].iter().position(|c| separates(*c)) {
+        Some(size) => start + size,
+        None => text.len(),
     }
-    k
 }
 
-// This kind where the word is this text, else the other.
-fn named(word: &[u8], text: &[u8], this: Kind, other: Kind) -> Kind
-    ensures { result ≡ cond (same_bytes text.now word.now) this other }
-{
-    if records::same_bytes(text, word) {
-        return this;
-    }
-    other
-}
-
-// The last five kinds that have a word.
-fn last_kinds(word: &[u8]) -> Kind
-    ensures { result ≡ kind_in (drop 10 worded) word.now }
-{
-    let choice = named(word, b"if", Kind::If, Kind::Unknown);
-    let product = named(word, b"mul", Kind::Product, choice);
-    let difference = named(word, b"sub", Kind::Difference, product);
-    let sum = named(word, b"add", Kind::Sum, difference);
-    named(word, b"neg", Kind::Minus, sum)
-}
-
-// And the five before them.
-fn later_kinds(word: &[u8]) -> Kind
-    ensures { result ≡ kind_in (drop 5 worded) word.now }
-{
-    let at_most = named(word, b"le", Kind::AtMost, last_kinds(word));
-    let less = named(word, b"lt", Kind::Less, at_most);
-    let equal = named(word, b"eq", Kind::Equal, less);
-    let iff = named(word, b"iff", Kind::Iff, equal);
-    named(word, b"implies", Kind::Implies, iff)
-}
+// The kinds that have a plain word, each behind its word.
+const WORDED: [(&[u8], Kind); 15] = [
+    (b"true", Kind::True),
+    (b"false", Kind::False),
+    (b"not", Kind::Not),
+    (b"and", Kind::And),
+    (b"or", Kind::Or),
+    (b"implies", Kind::Implies),
+    (b"iff", Kind::Iff),
+    (b"eq", Kind::Equal),
+    (b"lt", Kind::Less),
+    (b"le", Kind::AtMost),
+    (b"neg", Kind::Minus),
+    (b"add", Kind::Sum),
+    (b"sub", Kind::Difference),
+    (b"mul", Kind::Product),
+    (b"if", Kind::If),
+];
 
 // The kind whose plain word this is; Unknown where it is none's.
 pub fn kind_named(word: &[u8]) -> Kind
     ensures { result ≡ kind_named word.now }
 {
-    let or = named(word, b"or", Kind::Or, later_kinds(word));
-    let and = named(word, b"and", Kind::And, or);
-    let not = named(word, b"not", Kind::Not, and);
-    let no = named(word, b"false", Kind::False, not);
-    named(word, b"true", Kind::True, no)
-}
-
-fn is_digit(c: u8) -> bool
-    ensures { result ≡ is_digit c }
-{
-    b'0' <= c && c <= b'9'
+    match WORDED.iter().find(|(text, _)| *text == word) {
+        Some((_, kind)) => *kind,
+        None => Kind::Unknown,
+    }
 }
 
 // One more digit behind a number.
+#[tactic(auto, using(crate::proofs::Summing::digit_least))]
 fn with_digit(n: u32, c: u8) -> u32
     requires { (n ≤ 32768) × (is_digit c ≡ true) }
     ensures { result ≡ 10 * n + (c - 48) }
@@ -100,20 +77,14 @@ fn with_digit(n: u32, c: u8) -> u32
 fn zero_first(digits: &[u8]) -> bool
     ensures { result ≡ zero_first digits.now }
 {
-    if digits.len() == 0 {
-        return false;
-    }
-    digits[0] == b'0'
+    digits.first() == Some(&b'0')
 }
 
 // Whether a zero stands in front of other digits.
 fn spare_zero(digits: &[u8]) -> bool
     ensures { result ≡ spare_zero digits.now }
 {
-    if digits.len() < 2 {
-        return false;
-    }
-    zero_first(digits)
+    digits.len() >= 2 && zero_first(digits)
 }
 
 // Whether these are digits whose number is at most so much.
@@ -121,56 +92,44 @@ fn at_most(digits: &[u8], most: u32) -> bool
     requires { most ≤ 32768 }
     ensures { result ≡ all_digits digits.now && leb (value_from 0 digits.now) most }
 {
-    let mut n: u32 = 0;
-    let mut k: usize = 0;
-    while k < digits.len() {
-        if !is_digit(digits[k]) {
+    let mut n = 0;
+    for c in digits {
+        if !c.is_ascii_digit() {
             return false;
         }
-        n = with_digit(n, digits[k]);
+        n = with_digit(n, *c);
         if most < n {
             return false;
         }
-        k += 1;
     }
     true
 }
 
 // A decimal number of at most so much.
+#[tactic(auto, using(crate::proofs::Summing::decimal_tests))]
 fn is_decimal(digits: &[u8], most: u32) -> bool
     requires { most ≤ 32768 }
     ensures { result ≡ is_decimal most digits.now }
 {
-    if digits.len() == 0 {
-        return false;
-    }
-    if spare_zero(digits) {
-        return false;
-    }
-    at_most(digits, most)
+    !digits.is_empty() && !spare_zero(digits) && at_most(digits, most)
 }
 
 // What may stand behind a minus sign.
 fn is_magnitude(digits: &[u8]) -> bool
     ensures { result ≡ not (zero_first digits.now) && is_decimal 32768 digits.now }
 {
-    if zero_first(digits) {
-        return false;
-    }
-    is_decimal(digits, 32768)
+    !zero_first(digits) && is_decimal(digits, 32768)
 }
 
 // Whether this is a decimal number of 16 bits.
+#[tactic(auto, using(crate::proofs::Summing::signed_tests))]
 pub fn is_number(word: &[u8]) -> bool
     ensures { result ≡ is_number word.now }
 {
-    if word.len() == 0 {
-        return false;
+    match word.strip_prefix(b"-") {
+        Some(digits) => is_magnitude(digits),
+        None => is_decimal(word, 32767),
     }
-    if word[0] == b'-' {
-        return is_magnitude(&word[1..]);
-    }
-    is_decimal(word, 32767)
 }
 
 // The number of digits that is at most 32,768.
@@ -178,11 +137,9 @@ fn value_of(digits: &[u8]) -> u32
     requires { is_decimal 32768 digits.now ≡ true }
     ensures { (result ≡ value_from 0 digits.now) × (result ≤ 32768) }
 {
-    let mut n: u32 = 0;
-    let mut k: usize = 0;
-    while k < digits.len() {
-        n = with_digit(n, digits[k]);
-        k += 1;
+    let mut n = 0;
+    for c in digits {
+        n = with_digit(n, *c);
     }
     n
 }
@@ -192,46 +149,49 @@ fn negative(n: u32) -> i16
     requires { n ≤ 32768 }
     ensures { result ≡ neg_ℤ (pos n) }
 {
-    (-(n as i32)) as i16
+    -(n as i32) as i16
 }
 
 // A number's value.
+#[tactic(auto, using(crate::proofs::Summing::value_tests, crate::proofs::Summing::minus_decimal, crate::proofs::Summing::plain_decimal, crate::proofs::Summing::plain_small))]
 pub fn number_of(word: &[u8]) -> i16
     requires { is_number word.now ≡ true }
     ensures { result ≡ number_of word.now }
 {
-    if word[0] == b'-' {
-        return negative(value_of(&word[1..]));
+    match word.strip_prefix(b"-") {
+        Some(digits) => negative(value_of(digits)),
+        None => value_of(word) as i16,
     }
-    value_of(word) as i16
 }
 
-// How many operands stand behind a kind's plain word, and one more; 0 where it has no word.
+// How many operands stand behind a kind's plain word; nothing where it has no word.
+pub fn operands_behind(kind: Kind) -> Option<usize>
+    ensures { behind_said result ≡ operands_behind (row kind).shape }
+{
+    match kinds::shape_of(kind) {
+        Shape::Wrong | Shape::Valued | Shape::Named => None,
+        Shape::Bare => Some(0),
+        Shape::One(_) => Some(1),
+        Shape::Two(_, _) => Some(2),
+        Shape::Three(_, _, _) => Some(3),
+    }
+}
+
+// And one more; 0 where it has no word.
 pub fn operands(kind: Kind) -> usize
     ensures { result ≡ counted (operands_behind (row kind).shape) }
 {
-    match kinds::shape_of(kind) {
-        Shape::Wrong => 0,
-        Shape::Bare => 1,
-        Shape::Valued => 0,
-        Shape::Named => 0,
-        Shape::One(_) => 2,
-        Shape::Two(_, _) => 3,
-        Shape::Three(_, _, _) => 4,
-    }
+    operands_behind(kind).map_or(0, |n| n + 1)
 }
 
 // Whether this is a name, and no word.
+#[tactic(auto, using(crate::proofs::Naming::plain_tests, crate::proofs::Naming::behind_none))]
 pub fn is_plain_name(word: &[u8]) -> bool
     ensures { result ≡ is_plain_name word.now }
 {
-    if MOST_NAME_BYTES < word.len() {
-        return false;
-    }
-    if !records::name_right(word) {
-        return false;
-    }
-    operands(kind_named(word)) == 0
+    word.len() <= MOST_NAME_BYTES
+        && records::name_right(word)
+        && operands_behind(kind_named(word)).is_none()
 }
 
 // Behind the next line feed from a place on, or the text's end.
@@ -239,25 +199,19 @@ pub fn next_line(text: &[u8], from: usize) -> usize
     requires { from ≤ length text.now }
     ensures { (result ≤ length text.now) × (drop result text.now ≡ behind_line (drop from text.now)) }
 {
-    let mut k = from;
-    while k < text.len() {
-        if text[k] == b'\n' {
-            return k + 1;
-        }
-        k += 1;
+    match text[from..].iter().position(|c| *c == b'\n') {
+        Some(size) => from + size + 1,
+        None => text.len(),
     }
-    k
 }
 
 // Where the name of a line starts; the text's end where the line is too short.
+#[tactic(auto, using(crate::proofs::Naming::name_start))]
 fn name_place(text: &[u8], line: usize) -> usize
     requires { line ≤ length text.now }
     ensures { (result ≤ length text.now) × (drop result text.now ≡ drop behind_var (drop line text.now)) }
 {
-    if text.len() - line < NAME_START {
-        return text.len();
-    }
-    line + NAME_START
+    text.len().min(line + NAME_START)
 }
 
 // The name of a line.
@@ -274,29 +228,20 @@ pub fn name_at(text: &[u8], line: usize) -> &[u8]
 pub fn variable_named(text: &[u8], count: usize, word: &[u8]) -> usize
     ensures { result ≡ index_in (names_in count text.now) word.now }
 {
-    let mut line: usize = 0;
-    let mut i: usize = 0;
-    while i < count {
-        if records::same_bytes(name_at(text, line), word) {
+    let mut line = 0;
+    for i in 0..count {
+        if name_at(text, line) == word {
             return i;
         }
         line = next_line(text, line);
-        i += 1;
     }
-    i
+    count
 }
 
 // How often a byte stands in a text.
+#[tactic(auto, using(crate::proofs::Scanning::occurrences_counted))]
 pub fn occurrences(text: &[u8], byte: u8) -> usize
     ensures { result ≡ occurrences byte text.now }
 {
-    let mut n: usize = 0;
-    let mut k: usize = 0;
-    while k < text.len() {
-        if byte == text[k] {
-            n += 1;
-        }
-        k += 1;
-    }
-    n
+    text.iter().filter(|c| **c == byte).count()
 }

@@ -15,8 +15,7 @@ ghost use Rattle.writer.specs.Writes.{Writes};
 
 use numbers::NodeNumber;
 use pieces::BLANK;
-use refusals::{Reading, Refusal};
-use room::Written;
+use refusals::{Cause, Refused};
 use wording::ScriptForm;
 
 // A room of so many bytes is enough for both scripts of every accepted sheet.
@@ -137,26 +136,24 @@ fn script_len(sheet: &[u8], form: ScriptForm) -> usize
 }
 
 // The script of an accepted sheet, or refusal 9 at the bytes that it needs.
-fn write_accepted(sheet: &[u8], form: ScriptForm, room: &mut [u8]) -> Written
+fn write_accepted(sheet: &[u8], form: ScriptForm, room: &mut [u8]) -> Result<usize, Refused>
     requires { refusal_of most_nodes sheet.now ≡ none }
     ensures { Writes most_nodes (form_of form) sheet.now room.old result room.new }
 {
     let size = script_len(sheet, form);
     if room.len() < size {
-        return Written::Refused(Refusal {
-            number: 9,
+        return Err(Refused {
+            cause: Cause::Room,
             place: size,
         });
     }
-    Written::Done(put_script(sheet, form, room))
+    Ok(put_script(sheet, form, room))
 }
 
 // The script to the front of the room; a refusal leaves the room untouched.
-pub fn write_script(sheet: &[u8], form: ScriptForm, room: &mut [u8]) -> Written
+pub fn write_script(sheet: &[u8], form: ScriptForm, room: &mut [u8]) -> Result<usize, Refused>
     ensures { Writes most_nodes (form_of form) sheet.now room.old result room.new }
 {
-    match reading::read(sheet) {
-        Reading::Refused(refusal) => Written::Refused(refusal),
-        Reading::Accepted => write_accepted(sheet, form, room),
-    }
+    reading::read(sheet)?;
+    write_accepted(sheet, form, room)
 }

@@ -1,4 +1,5 @@
 -- `building::build` and the functions that it calls on its operands meet their contracts: what is left of the text falls. Assumes nothing.
+use mathlib.Core.Logic.{inl, inr}
 use mathlib.Core.Path.{refl}
 use native.Mathlib.Omega.{arith}
 use Rattle.building.proofs.WordLaws.{inside}
@@ -46,10 +47,12 @@ pub build-returns-in-Bare : goal.build-returns-in-Bare
 build-returns-in-Bare t c = record { all = λ vs e s. bare-laid s c.word_end-end.ensures c.kind_at-kind.ensures c.shape_of.ensures c.in-Bare.is c.operator.ensures c.put-in-Bare.ensures }
 
 pub build-returns-in-Valued : goal.build-returns-in-Valued
-build-returns-in-Valued t c = absurd (never c.requires.ready.spelt c.word_end-end.ensures c.kind_at-kind.ensures c.shape_of.ensures c.in-Valued.is refl refl)
-
-pub build-returns-in-Named : goal.build-returns-in-Named
-build-returns-in-Named t c = absurd (never c.requires.ready.spelt c.word_end-end.ensures c.kind_at-kind.ensures c.shape_of.ensures c.in-Named.is refl refl)
+build-returns-in-Valued t c =
+    let s = c.requires.ready.spelt in
+    absurd (elim c.in-Valued.is [
+      | inl h ↦ never s c.word_end-end.ensures c.kind_at-kind.ensures c.shape_of.ensures h refl refl
+      | inr h ↦ never s c.word_end-end.ensures c.kind_at-kind.ensures c.shape_of.ensures h refl refl
+    ])
 
 pub build-returns-in-One : goal.build-returns-in-One
 build-returns-in-One t c = record { all = λ vs e s. one-laid s c.word_end-end.ensures c.kind_at-kind.ensures c.shape_of.ensures c.in-One.is c.one.ensures }

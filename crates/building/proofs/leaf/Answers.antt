@@ -4,9 +4,6 @@ use native.Mathlib.Omega.{arith}
 use Rattle.building.proofs.LeafLaws.{index-most, leaf-number, leaf-name}
 use Rattle.building.proofs.leaf.Goals as goal
 
-pub constant-requires : goal.constant-requires
-constant-requires c = sym c.is_number.ensures ∙ c.if-is_number.true
-
 pub operator-requires : goal.operator-requires
 operator-requires c = let a = c.args in (omega (arith, index-most a.count a.text.now a.word.now, c.variable_named.ensures), omega arith, omega arith)
 

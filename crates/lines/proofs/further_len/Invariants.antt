@@ -1,5 +1,4 @@
 -- `lines::further_len` meets its contract: after i turns the symbols of i variables behind the first are counted. Assumes nothing.
-use Prim.Native.Nat.{◌-◌, ◌≤◌}
 use mathlib.Core.Path.{◌≡◌}
 use lib.ListN.{length}
 use Rattle.lists.specs.Joined.{joined_below}
@@ -7,7 +6,4 @@ use Rattle.lines.specs.Lines.{further_symbol}
 use Rattle.lines.proofs.further_len.Given as goal
 
 abbrev pub invariant-loop-i : goal.invariant-loop-i
-invariant-loop-i l = (l.i ≤ l.others) × (l.size ≡ length (joined_below further_symbol l.i))
-
-abbrev pub decreases-loop-i : goal.decreases-loop-i
-decreases-loop-i l = l.others - l.i
+invariant-loop-i l = l.size ≡ length (joined_below further_symbol l.i)

@@ -1,10 +1,6 @@
 -- `lines::variables_len` meets its contract: after i turns the lines of the first i variables are counted. Assumes nothing.
-use Prim.Native.Nat.{◌-◌, ◌≤◌}
 use Rattle.lines.specs.Lines.{LinesSize}
 use Rattle.lines.proofs.variables_len.Given as goal
 
 abbrev pub invariant-loop-i : goal.invariant-loop-i
-invariant-loop-i l = (l.i ≤ l.count) × LinesSize l.i l.size
-
-abbrev pub decreases-loop-i : goal.decreases-loop-i
-decreases-loop-i l = l.count - l.i
+invariant-loop-i l = LinesSize l.i l.size

@@ -1,9 +1,11 @@
 -- `maker::deliver` meets its contract: the refusal of the reading, or what is answered of an accepted sheet. Assumes nothing.
-use Rattle.maker.proofs.MakeLaws.{sheet-refused, sheet-accepted}
+use mathlib.Core.Path.{◌≡◌}
+use borrow.Author.Rules.{rules}
+use Rattle.std.specs.Prelude.{Err}
+use Rattle.maker.proofs.MakeLaws.{sheet-refused}
 use Rattle.maker.proofs.deliver.Goals as goal
 
-pub deliver_accepted-requires : goal.deliver_accepted-requires
-deliver_accepted-requires c = sheet-accepted _ c.read.ensures c.in-Accepted.is
-
-pub returns-in-Refused : goal.returns-in-Refused
-returns-in-Refused c = sheet-refused _ _ c.read.ensures c.in-Refused.is
+pub returns-in_err-read : goal.returns-in_err-read
+returns-in_err-read c =
+    let d : c.from_residual.result ≡ Err c.in_err-read.field-0.0 = search rules in
+    sheet-refused _ _ d c.in_err-read.ensures

@@ -15,8 +15,5 @@ overflow_mul-a-3 c = search fit
 pub overflow_mul-a-4 : goal.overflow_mul-a-4
 overflow_mul-a-4 c = search fit
 
-pub span-requires : goal.span-requires
-span-requires c = search fit
-
 pub returns : goal.returns
 returns c = c.span.ensures ∙ search fit

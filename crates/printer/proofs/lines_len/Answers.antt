@@ -9,11 +9,11 @@ use Rattle.printer.specs.Lines.{line_at}
 use Rattle.printer.proofs.LineLaws.{line-short, lines-short}
 use Rattle.printer.proofs.lines_len.Goals as goal
 
-pub loop-i-init : goal.loop-i-init
-loop-i-init c = (omega arith, sym (ap length (joined-none (line_at c.args.sheet.now))))
+pub loop-variable-init : goal.loop-variable-init
+loop-variable-init c = sym (ap length (joined-none (line_at c.args.sheet.now)))
 
-pub overflow_cast-i : goal.overflow_cast-i
-overflow_cast-i c = omega (arith, (accepted-counted _ c.requires.0).few)
+pub overflow_cast-variable : goal.overflow_cast-variable
+overflow_cast-variable c = omega (arith, (accepted-counted _ c.requires.0).few)
 
 pub line_len-size-requires : goal.line_len-size-requires
 line_len-size-requires c = record { accepted = c.requires.0; below = omega arith }
@@ -21,19 +21,13 @@ line_len-size-requires c = record { accepted = c.requires.0; below = omega arith
 pub overflow_add-size : goal.overflow_add-size
 overflow_add-size c =
     let s = c.args.sheet.now in
-    let i = c.loop-i.i in
+    let i = c.loop-variable.variable in
     omega (arith, line-short {s = s} {i = i} (record { accepted = c.requires.0; below = omega arith }), lines-short s c.requires.0 i (omega arith), (accepted-counted _ c.requires.0).few)
 
-pub overflow_add-i : goal.overflow_add-i
-overflow_add-i c = omega arith
-
-pub loop-i-smaller : goal.loop-i-smaller
-loop-i-smaller c = omega arith
-
-pub loop-i-preserved : goal.loop-i-preserved
-loop-i-preserved c = (omega arith, omega (arith, length_more (line_at c.args.sheet.now) c.loop-i.i))
+pub loop-variable-preserved : goal.loop-variable-preserved
+loop-variable-preserved c = omega (arith, length_more (line_at c.args.sheet.now) c.loop-variable.variable)
 
 pub returns : goal.returns
 returns c =
-    let e : c.loop-i.i ≡ c.args.count = omega arith in
-    c.loop-i.invariant.1 ∙ ap (λ n. length (joined_below (line_at c.args.sheet.now) n)) e
+    let e : c.loop-variable.variable ≡ c.args.count = omega arith in
+    c.loop-variable.invariant ∙ ap (λ n. length (joined_below (line_at c.args.sheet.now) n)) e

@@ -6,8 +6,5 @@ use Rattle.lists.specs.Joined.{joined_below}
 use Rattle.printer.specs.Lines.{line_at}
 use Rattle.printer.proofs.lines_len.Given as goal
 
-abbrev pub invariant-loop-i : goal.invariant-loop-i
-invariant-loop-i l = (l.i ≤ l.count) × (l.size ≡ length (joined_below (line_at l.sheet) l.i))
-
-abbrev pub decreases-loop-i : goal.decreases-loop-i
-decreases-loop-i l = l.count - l.i
+abbrev pub invariant-loop-variable : goal.invariant-loop-variable
+invariant-loop-variable l = l.size ≡ length (joined_below (line_at l.sheet) l.variable)

@@ -1,13 +1,11 @@
 -- `printer::print_accepted` meets its contract: the refusal of the names, or what is answered where they are no words. Assumes nothing.
-use mathlib.Core.Path.{sym, ap, ◌∙◌}
-use Rattle.refusals.specs.Said.{said_of}
+use mathlib.Core.Path.{◌≡◌}
+use borrow.Author.Rules.{rules}
+use Rattle.std.specs.Prelude.{Err}
 use Rattle.printer.proofs.PrintLaws.{name-refused}
 use Rattle.printer.proofs.print_accepted.Goals as goal
 
-pub print_named-requires : goal.print_named-requires
-print_named-requires c =
-    (c.requires, sym c.read_names.ensures ∙ ap said_of c.in-Accepted.is)
-
-pub returns-in-Refused : goal.returns-in-Refused
-returns-in-Refused c =
-    name-refused _ c.requires _ c.read_names.ensures c.in-Refused.is
+pub returns-in_err-read_names : goal.returns-in_err-read_names
+returns-in_err-read_names c =
+    let d : c.from_residual.result ≡ Err c.in_err-read_names.field-0.0 = search rules in
+    name-refused _ c.requires _ d c.in_err-read_names.ensures

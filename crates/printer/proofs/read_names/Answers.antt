@@ -13,7 +13,7 @@ pub variable_count-count-requires : goal.variable_count-count-requires
 variable_count-count-requires c = first_block _ c.requires
 
 pub loop-checked-init : goal.loop-checked-init
-loop-checked-init c = (search rules, rw (sub-zero, c.variable_count-count.ensures))
+loop-checked-init c = rw (sub-zero, c.variable_count-count.ensures)
 
 pub overflow_cast-checked : goal.overflow_cast-checked
 overflow_cast-checked c = omega (arith, (accepted-counted _ c.requires).few)
@@ -23,11 +23,11 @@ plain_name-requires c = record { accepted = c.requires; below = omega (arith, c.
 
 pub returns-then-not-plain_name : goal.returns-then-not-plain_name
 returns-then-not-plain_name c =
-    sym (c.loop-checked.invariant.1 ∙ left-stop _ c.loop-checked-test.true (unless-false 19 _ (sym c.plain_name.ensures ∙ c.if-not-plain_name.true)))
+    sym (c.loop-checked.invariant ∙ left-stop _ c.loop-checked-test.true (unless-false 19 _ (sym c.plain_name.ensures ∙ c.if-not-plain_name.true)))
 
 pub loop-checked-preserved : goal.loop-checked-preserved
 loop-checked-preserved c =
-    (search rules, c.loop-checked.invariant.1 ∙ left-pass _ c.loop-checked-test.true (unless-true 19 _ (sym c.plain_name.ensures ∙ c.if-not-plain_name.false)))
+    c.loop-checked.invariant ∙ left-pass _ c.loop-checked-test.true (unless-true 19 _ (sym c.plain_name.ensures ∙ c.if-not-plain_name.false))
 
 pub returns : goal.returns
-returns c = sym (c.loop-checked.invariant.1 ∙ left-done _ c.loop-checked-test.false)
+returns c = sym (c.loop-checked.invariant ∙ left-done _ c.loop-checked-test.false)

@@ -7,7 +7,4 @@ use Rattle.printer.specs.Prints.{word_refusal}
 use Rattle.printer.proofs.read_names.Given as goal
 
 abbrev pub invariant-loop-checked : goal.invariant-loop-checked
-invariant-loop-checked l = (l.checked ≤ l.count) × (first (word_refusal l.sheet) 0 (variable_count l.sheet) ≡ first (word_refusal l.sheet) l.checked (l.count - l.checked))
-
-abbrev pub decreases-loop-checked : goal.decreases-loop-checked
-decreases-loop-checked l = l.count - l.checked
+invariant-loop-checked l = first (word_refusal l.sheet) 0 (variable_count l.sheet) ≡ first (word_refusal l.sheet) l.checked (l.count - l.checked)

@@ -8,7 +8,4 @@ use Rattle.printer.specs.Lines.{line_at}
 use Rattle.printer.proofs.variable_lines.Given as goal
 
 abbrev pub invariant-loop-variable : goal.invariant-loop-variable
-invariant-loop-variable l = (l.variable ≤ l.count) × (length l.room ≡ length l.initial.room) × Wrote (joined_below (line_at l.sheet) l.variable) l.initial.room l.room 0 l.next
-
-abbrev pub decreases-loop-variable : goal.decreases-loop-variable
-decreases-loop-variable l = l.count - l.variable
+invariant-loop-variable l = (length l.room ≡ length l.initial.room) × Wrote (joined_below (line_at l.sheet) l.variable) l.initial.room l.room 0 l.next

@@ -22,12 +22,12 @@ returns-then-zero_byte-ne0 c = sym (variable-wrong _ _ (λ v. c.if-zero_byte-ne0
 
 pub returns-then-not-name_right : goal.returns-then-not-name_right
 returns-then-not-name_right c =
-    let wrong = sym (rw c.name_in-name.ensures.bytes at c.name_right.ensures) ∙ c.if-not-name_right.true in
+    let wrong = sym (rw c.name_in.ensures.bytes at c.name_right.ensures) ∙ c.if-not-name_right.true in
     sym (variable-wrong _ _ (λ v. true≢false (sym ((name-decided _).1 v.name) ∙ wrong)))
 
 pub returns : goal.returns
 returns c =
     let order = sym c.ordered.ensures ∙ c.if-not-ordered.false in
-    let name = sym (rw c.name_in-name.ensures.bytes at c.name_right.ensures) ∙ c.if-not-name_right.false in
+    let name = sym (rw c.name_in.ensures.bytes at c.name_right.ensures) ∙ c.if-not-name_right.false in
     let size = c.byte_at-size.ensures in
     rw size.0 at c.clear.ensures ∙ sym (variable-left _ _ order (omega (arith, size)) (omega (arith, size)) (sym c.zero_byte.ensures ∙ c.if-zero_byte-ne0.false) name)

@@ -1,13 +1,9 @@
 -- `sheets::put_checks` meets its contract: after k turns the checks of the blocks below k are put. Assumes nothing.
-use borrow.Author.Rules.{rules}
-use Rattle.sheets.proofs.PutLaws.{checks-none, checks-turn, checks-all}
+use Rattle.sheets.proofs.PutLaws.{checks-none, checks-turn}
 use Rattle.sheets.proofs.put_checks.Goals as goal
 
 pub loop-k-init : goal.loop-k-init
-loop-k-init c = (search rules, search rules, checks-none _)
+loop-k-init c = checks-none _
 
 pub loop-k-preserved : goal.loop-k-preserved
-loop-k-preserved c = (search rules, search rules, checks-turn _ _ c.loop-k.invariant.2 c.put_check.ensures)
-
-pub returns : goal.returns
-returns c = checks-all _ (search rules) c.loop-k.invariant.2
+loop-k-preserved c = checks-turn _ _ c.loop-k.invariant c.put_check.ensures

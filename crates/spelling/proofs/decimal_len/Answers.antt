@@ -1,19 +1,19 @@
 -- `spelling::decimal_len` meets its contract: one digit below 10, and so on to five. Assumes nothing.
 use native.Mathlib.Omega.{arith}
-use Rattle.spelling.proofs.DigitLaws.{length-1, length-2, length-3, length-4, length-5}
+use Rattle.spelling.proofs.DigitLaws.{decimal-length}
 use Rattle.spelling.proofs.decimal_len.Goals as goal
 
-pub returns-then-n-lt10 : goal.returns-then-n-lt10
-returns-then-n-lt10 c = length-1 _ (omega arith)
+pub returns-in-0-to-9 : goal.returns-in-0-to-9
+returns-in-0-to-9 c = decimal-length 0 c.args.n (omega arith) (λ z. omega arith)
 
-pub returns-then-n-lt100 : goal.returns-then-n-lt100
-returns-then-n-lt100 c = length-2 _ (omega arith) (omega arith)
+pub returns-in-10-to-99 : goal.returns-in-10-to-99
+returns-in-10-to-99 c = decimal-length 1 c.args.n (omega arith) (λ z. omega arith)
 
-pub returns-then-n-lt1000 : goal.returns-then-n-lt1000
-returns-then-n-lt1000 c = length-3 _ (omega arith) (omega arith)
+pub returns-in-100-to-999 : goal.returns-in-100-to-999
+returns-in-100-to-999 c = decimal-length 2 c.args.n (omega arith) (λ z. omega arith)
 
-pub returns-then-n-lt10000 : goal.returns-then-n-lt10000
-returns-then-n-lt10000 c = length-4 _ (omega arith) (omega arith)
+pub returns-in-1000-to-9999 : goal.returns-in-1000-to-9999
+returns-in-1000-to-9999 c = decimal-length 3 c.args.n (omega arith) (λ z. omega arith)
 
-pub returns : goal.returns
-returns c = length-5 _ (omega arith) (omega arith)
+pub returns-in_default : goal.returns-in_default
+returns-in_default c = decimal-length 4 c.args.n (omega arith) (λ z. omega arith)

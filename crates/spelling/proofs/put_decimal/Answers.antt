@@ -1,15 +1,11 @@
--- `spelling::put_decimal` meets its contract: the digits are the front of their row. Assumes nothing.
-use mathlib.Core.Path.{sym, ap, ◌∙◌}
-use borrow.Author.Rules.{rules}
-use lib.ListN.{length}
+-- `spelling::put_decimal` meets its contract: the digits are the last of five. Assumes nothing.
+use native.Mathlib.Omega.{arith}
 use Rattle.room.proofs.RoomLaws.{wrote_as}
+use Rattle.spelling.proofs.DigitLaws.{decimal-short, of-five}
 use Rattle.spelling.proofs.put_decimal.Goals as goal
 
-pub slice_bounds-put-end : goal.slice_bounds-put-end
-slice_bounds-put-end c = let w = c.decimal_of-word.ensures in w.size ∙ sym (ap length w.text)
-
-pub put-requires : goal.put-requires
-put-requires c = rw c.decimal_of-word.ensures.text (search rules)
+pub overflow_sub-zeros : goal.overflow_sub-zeros
+overflow_sub-zeros c = omega (arith, decimal-short 4 c.args.n (omega arith))
 
 pub returns : goal.returns
-returns c = wrote_as c.put.ensures c.decimal_of-word.ensures.text
+returns c = wrote_as c.put.ensures (of-five c.args.n c.digit.ensures c.digit-2.ensures c.digit-3.ensures c.digit-4.ensures c.digit-5.ensures c.decimal_len-zeros.ensures (omega (arith, decimal-short 4 c.args.n (omega arith))))

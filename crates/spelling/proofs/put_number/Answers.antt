@@ -5,20 +5,20 @@ use Rattle.spelling.proofs.NumberLaws.{minus-length, plain-length, minus-text, p
 use Rattle.spelling.proofs.put_number.Goals as goal
 
 pub put-next-requires : goal.put-next-requires
-put-next-requires c = omega (arith, minus-length c.ranges.z c.magnitude-n.ensures c.if-z-lt0.true)
+put-next-requires c = omega (arith, minus-length c.ranges.z c.unsigned_abs-n.ensures.value c.if-z-lt0.true)
 
 pub put_decimal-requires : goal.put_decimal-requires
 put_decimal-requires c =
-    omega (arith, minus-length c.ranges.z c.magnitude-n.ensures c.if-z-lt0.true)
+    omega (arith, minus-length c.ranges.z c.unsigned_abs-n.ensures.value c.if-z-lt0.true)
 
 pub returns-then-z-lt0 : goal.returns-then-z-lt0
 returns-then-z-lt0 c =
     let f = c.ranges.z in
-    wrote_as (chain (omega (arith, minus-length f c.magnitude-n.ensures c.if-z-lt0.true)) c.put-next.ensures c.put_decimal.ensures) (minus-text f c.magnitude-n.ensures c.if-z-lt0.true)
+    wrote_as (chain (omega (arith, minus-length f c.unsigned_abs-n.ensures.value c.if-z-lt0.true)) c.put-next.ensures c.put_decimal.ensures) (minus-text f c.unsigned_abs-n.ensures.value c.if-z-lt0.true)
 
 pub put_decimal-requires-2 : goal.put_decimal-requires-2
-put_decimal-requires-2 c = omega (arith, plain-length c.ranges.z c.magnitude-n.ensures c.if-z-lt0.false)
+put_decimal-requires-2 c = omega (arith, plain-length c.ranges.z c.unsigned_abs-n.ensures.value c.if-z-lt0.false)
 
 pub returns : goal.returns
 returns c =
-    wrote_as c.put_decimal-2.ensures (plain-text c.ranges.z c.magnitude-n.ensures c.if-z-lt0.false)
+    wrote_as c.put_decimal-2.ensures (plain-text c.ranges.z c.unsigned_abs-n.ensures.value c.if-z-lt0.false)

@@ -1,16 +1,15 @@
--- `next_line` meets its contract. Invariant: the line feed that is looked for is the first from k on. Assumes nothing.
-use borrow.Author.Rules.{rules}
-use Rattle.words.proofs.Scanning.{passing-begin, passing-here, passing-turn, passing-end}
+-- `next_line` meets its contract: the first line feed ends the line. Assumes nothing.
+use Rattle.std.proofs.Common.{eqb, rules, tests}
+use Rattle.std.proofs.lemmas.Iterator.{YieldsList-from_slice}
+use Rattle.std.proofs.lemmas.Iterator.Search.{position_from_yields_List}
+use borrow.Author.Rules.{part_to_end}
+use Rattle.words.proofs.Scanning.{line-found, line-whole}
 use Rattle.words.proofs.next_line.Goals as goal
 
-pub loop-k-init : goal.loop-k-init
-loop-k-init c = passing-begin _ (search rules)
+pub returns-in-Some : goal.returns-in-Some
+returns-in-Some c =
+    line-found c.args.text.now c.args.from (part_to_end c.args.text.now c.args.from) (position_from_yields_List (λ b. eqb b 10) _ _ c.position.result c.position.ensures.ran (YieldsList-from_slice _ c.iter.ensures.rest) (λ x b q k. search (rules, tests))) (search rules) c.in-Some.is
 
-pub returns-then-text-k-eq10 : goal.returns-then-text-k-eq10
-returns-then-text-k-eq10 c = passing-here c.loop-k.invariant c.loop-k-test.true c.if-text-k-eq10.true
-
-pub loop-k-preserved : goal.loop-k-preserved
-loop-k-preserved c = passing-turn c.loop-k.invariant c.loop-k-test.true c.if-text-k-eq10.false
-
-pub returns : goal.returns
-returns c = passing-end c.loop-k.invariant c.loop-k-test.false
+pub returns-in-None : goal.returns-in-None
+returns-in-None c =
+    line-whole c.args.text.now c.args.from (part_to_end c.args.text.now c.args.from) (position_from_yields_List (λ b. eqb b 10) _ _ c.position.result c.position.ensures.ran (YieldsList-from_slice _ c.iter.ensures.rest) (λ x b q k. search (rules, tests))) (search rules) c.in-None.is

@@ -1,16 +1,16 @@
--- `word_end` meets its contract. Invariant: the word's end is the first from k on. Assumes nothing.
-use borrow.Author.Rules.{rules}
-use Rattle.words.proofs.Scanning.{ending-begin, ending_here, ending-turn, ending-end}
+-- `word_end` meets its contract: the first separator ends the word. Assumes nothing.
+use Rattle.std.proofs.Common.{rules, tests}
+use Rattle.std.proofs.lemmas.Iterator.{YieldsList-from_slice}
+use Rattle.std.proofs.lemmas.Iterator.Search.{position_from_yields_List}
+use borrow.Author.Rules.{part_to_end}
+use Rattle.texts.specs.Places.{separates}
+use Rattle.words.proofs.Scanning.{word-found, word-whole}
 use Rattle.words.proofs.word_end.Goals as goal
 
-pub loop-k-init : goal.loop-k-init
-loop-k-init c = ending-begin _ (search rules)
+pub returns-in-Some : goal.returns-in-Some
+returns-in-Some c =
+    word-found c.args.text.now c.args.start (part_to_end c.args.text.now c.args.start) (position_from_yields_List separates _ _ c.position.result c.position.ensures.ran (YieldsList-from_slice _ c.iter.ensures.rest) (λ x b q k. search (rules, tests))) c.in-Some.is
 
-pub returns-then-separates : goal.returns-then-separates
-returns-then-separates c = ending_here c.loop-k.invariant c.loop-k-test.true c.separates.ensures c.if-separates.true
-
-pub loop-k-preserved : goal.loop-k-preserved
-loop-k-preserved c = ending-turn c.loop-k.invariant c.loop-k-test.true c.separates.ensures c.if-separates.false
-
-pub returns : goal.returns
-returns c = ending-end c.loop-k.invariant c.loop-k-test.false
+pub returns-in-None : goal.returns-in-None
+returns-in-None c =
+    word-whole c.args.text.now c.args.start (part_to_end c.args.text.now c.args.start) (position_from_yields_List separates _ _ c.position.result c.position.ensures.ran (YieldsList-from_slice _ c.iter.ensures.rest) (λ x b q k. search (rules, tests))) (search rules) c.in-None.is
