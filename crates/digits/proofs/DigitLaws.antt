@@ -1,7 +1,6 @@
 -- In a reply that spells a setting, behind the hash of a variable's number stand its base and its digits, and their number is the variable's. Assumes nothing.
 use Prim.Native.Nat.{ℕ, zero, suc, ◌+◌, ◌-◌, ◌*◌, ◌<◌, ◌≤◌}
 use mathlib.Core.Path.{◌≡◌, refl, sym, ap, subst, ◌∙◌}
-use mathlib.Core.Bool.{Bool, true, false, cond}
 use mathlib.Core.List.{List, [], ◌∷◌, map}
 use native.Mathlib.Nat.{zero-add, add-suc, suc-add, mul-one, mul-le-mul, le_refl}
 use native.Mathlib.Numerals.{add-one}
@@ -22,8 +21,8 @@ use Rattle.replies.specs.Replies.{value_bits}
 use Rattle.replies.specs.Says.{Numeral, hexadecimal, binary, number_in, Sixteen, AllSixteen, digits, Spells, SpellsSetting, SpellsCase}
 use Rattle.replies.proofs.NumberLaws.{Small, setting-small, setting-length}
 use Rattle.replies.proofs.HashLaws.{behind_hash, Hashes, no_more, other, hash, spells-hashes}
-use Rattle.digits.specs.Hashes.{place_behind, size_at, base_at, number_at}
-use Rattle.digits.specs.Ready.{SixteenBits, Based}
+use Rattle.digits.specs.Hashes.{place_behind, size_at, number_at}
+use Rattle.digits.specs.Ready.{Based}
 use Rattle.digits.proofs.HashScan.{pass, stop-here, next-hash}
 
 -- ---- behind a hash
@@ -113,18 +112,6 @@ digits-at s p (hexadecimal ds) r f =
 digits-at s p (binary ds) r f =
     let b = base-at 98 (digits ds anything) s p f in
     record { inside = b.inside; behind = rw b.is (size_fits ds b r.0); number = rw b.is (number_is ds b r.0 2) }
-
--- the number of the digits that stand there, as the part that is lent
-module _ (s : List ℕ) (p : ℕ) {base : ℕ} (e : base ≡ base_at s p) {part : List ℕ} (f : part ≡ take (size_at s p) (drop (p + 1) s)) where
-  pub part-number : number_of base (map digit_value part) ≡ number_at s p
-  part-number = rw (e, f)
-
-  pub few-there : Based s p → SixteenBits base part
-  few-there h = record { some-base = rw e (go (eqb (get_or s p 0) 120)); small = rw part-number h.small }
-    where
-      go : (b : Bool) → 1 ≤ cond b 16 2
-      go true = omega arith
-      go false = omega arith
 
 sixteen-at : (ns : List Numeral) (i : ℕ) → AllSixteen ns → i < length ns → Sixteen (get_or ns i (hexadecimal []))
 sixteen-at [] i a l = absurd (omega arith)

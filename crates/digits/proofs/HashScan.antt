@@ -1,15 +1,18 @@
 -- From hash to hash: the place behind the next hash, looked for from where the last one was found. Assumes nothing.
-use Prim.Native.Nat.{ℕ, suc, ◌+◌, ◌-◌, ◌<◌, ◌≤◌}
-use mathlib.Core.Path.{◌≡◌, refl, sym, ap, ◌∙◌}
+use Prim.Native.Nat.{ℕ, suc, ◌+◌, ◌-◌, ◌≤◌}
+use mathlib.Core.Path.{◌≡◌, sym, ap, ◌∙◌}
 use mathlib.Core.Bool.{Bool, true, false}
 use mathlib.Core.List.{List, [], ◌∷◌}
-use native.Mathlib.Nat.{add-zero, zero-add}
+use native.Mathlib.Nat.{add-zero}
 use native.Mathlib.Numerals.{add-one}
 use native.Mathlib.Omega.{arith}
 use lib.Dec.{eqb}
-use lib.ListN.{length, get_or, drop, length-drop, drop_of_length-le}
-use lib.Seq.{drop-cons, drop-drop}
+use lib.ListN.{length, drop, length-drop}
+use lib.Seq.{drop-drop}
 use borrow.Author.Tests.{eq-eqb, ne_eqb}
+use Rattle.std.specs.Prelude.{Option, Some, None, cond}
+use Rattle.std.specs.List.{position, position_from}
+use Rattle.std.proofs.lemmas.Iterator.Adapters.{position_from-zero}
 use Rattle.digits.specs.Hashes.{place_behind}
 
 -- ---- at a byte
@@ -28,26 +31,38 @@ next-hash i k c s e = rw (eq-eqb c 35 e, place_behind)
 
 -- ---- the scan for one hash
 
-pub record Looking (s : List ℕ) (from k : ℕ) : Type 0 where
-  pub inside : k ≤ length s
-  pub same : place_behind 0 from (drop from s) ≡ place_behind 0 k (drop k s)
+-- the place behind the hash that is found, if any, so many bytes behind place k; or the end, m
+abbrev found_at : ℕ → ℕ → Option ℕ → ℕ
+found_at k m None = m
+found_at k m (Some n) = k + n + 1
 
-pub looking-begin : (s : List ℕ) (from : ℕ) → from ≤ length s → Looking s from from
-looking-begin s from h = record { inside = h; same = refl }
+hash_from : (k j : ℕ) (s : List ℕ) → place_behind 0 (k + j) s ≡ found_at k (k + j + length s) (position_from (λ c. eqb c 35) j s)
+unfolding place_behind
+hash_from k j [] = sym (add-zero (k + j))
+hash_from k j (c ∷ s) = go (eqb c 35) (hash_from k (j + 1) s)
+  where
+    go : (b : Bool) → place_behind 0 (k + (j + 1)) s ≡ found_at k (k + (j + 1) + length s) (position_from (λ d. eqb d 35) (j + 1) s) →
+        elim b [ true ↦ suc (k + j) | false ↦ place_behind 0 (suc (k + j)) s ] ≡ found_at k (k + j + suc (length s)) (cond b (Some j) (position_from (λ d. eqb d 35) (j + 1) s))
+    go true h = sym (add-one (k + j))
+    go false h =
+        let e : suc (k + j) ≡ k + (j + 1) = omega arith in
+        let d : k + (j + 1) + length s ≡ k + j + suc (length s) = omega arith in
+        ap (λ (n : ℕ). place_behind 0 n s) e ∙ h ∙ ap (λ (m : ℕ). found_at k m (position_from (λ d. eqb d 35) (j + 1) s)) d
 
-module _ {s : List ℕ} {from k : ℕ} (w : Looking s from k) where
-  split : k < length s → place_behind 0 from (drop from s) ≡ place_behind 0 k (get_or s k 0 ∷ drop (suc k) s)
-  split h = w.same ∙ ap (place_behind 0 k) (drop-cons s k 0 h)
+module _ (s : List ℕ) (from : ℕ) {o : Option ℕ} (found : o ≡ position (λ c. eqb c 35) (drop from s)) where
+  behind : place_behind 0 from (drop from s) ≡ found_at from (from + length (drop from s)) o
+  behind =
+      let e = hash_from from 0 (drop from s) in
+      let d = found ∙ position_from-zero (λ c. eqb c 35) (drop from s) in
+      (simp add-zero at e) ∙ ap (found_at from (from + length (drop from s))) (sym d)
 
-  pub looking-here : k < length s → get_or s k 0 ≡ 35 → k + 1 ≡ place_behind 0 from (drop from s)
-  looking-here h e = add-one k ∙ sym (split h ∙ stop-here k (get_or s k 0) (drop (suc k) s) e)
+  pub behind-some : {n : ℕ} → o ≡ Some n → from + n + 1 ≡ place_behind 0 from (drop from s)
+  behind-some e = sym (behind ∙ ap (found_at from (from + length (drop from s))) e)
 
-  pub looking-turn : k < length s → (get_or s k 0 ≡ 35 → ⊥) → Looking s from (k + 1)
-  looking-turn h n = record { inside = omega arith; same = rw add-one (split h ∙ pass 0 k (get_or s k 0) (drop (suc k) s) n) }
-
-  pub looking-end : length s ≤ k → k ≡ place_behind 0 from (drop from s)
-  unfolding place_behind
-  looking-end h = sym (w.same ∙ ap (place_behind 0 k) (drop_of_length-le s h))
+  pub behind-none : from ≤ length s → o ≡ None → length s ≡ place_behind 0 from (drop from s)
+  behind-none h e =
+      let d : length s ≡ from + length (drop from s) = omega (arith, length-drop from s) in
+      d ∙ sym (behind ∙ ap (found_at from (from + length (drop from s))) e)
 
 -- ---- the scan for one after the other
 
@@ -78,9 +93,6 @@ onward j k (c ∷ s) = go (eqb c 35) (onward j (suc k) s) (within (suc k) s).0
 pub record Passing (s : List ℕ) (i p : ℕ) : Type 0 where
   pub inside : p ≤ length s
   pub same : (j : ℕ) → place_behind (i + j) 0 s ≡ place_behind j p (drop p s)
-
-pub passing-begin : (s : List ℕ) → Passing s 0 0
-passing-begin s = record { inside = omega arith; same = λ j. ap (λ (n : ℕ). place_behind n 0 s) (zero-add j) }
 
 module _ {s : List ℕ} {i p : ℕ} (w : Passing s i p) {q : ℕ} (e : q ≡ place_behind 0 p (drop p s)) where
   -- the next is hash number i

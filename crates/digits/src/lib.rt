@@ -1,9 +1,7 @@
 // A variable's digits, and the numbers of all variables, in a reply that spells a case.
 #![tactic(auto)]
 
-ghost use Rattle.std.specs.Prelude.{◌≡◌, map, ◌+◌, ◌*◌, ◌≤◌, ◌<◌, length, drop};
-ghost use Rattle.lists.specs.Part.{PartAt};
-ghost use Rattle.numbers.specs.Bytes.{word_limit};
+ghost use Rattle.std.specs.Prelude.{◌≡◌, map, ◌≤◌, ◌<◌, length, drop};
 ghost use Rattle.numbers.specs.Two.{dec};
 ghost use Rattle.smtlib.specs.Tokens.{digit_value};
 ghost use Rattle.smtlib.specs.Terms.{number_of};
@@ -21,72 +19,51 @@ pub struct Span {
     pub size: usize,
 }
 
+// What the letter before a value's digits says of them.
+#[derive(Clone, Copy)]
+struct Base {
+    number: u16,
+    size: usize,
+}
+
 // The place behind the first hash from a place on, or the length where there is none.
 fn behind(reply: &[u8], from: usize) -> usize
     requires { from ≤ length reply.now }
     ensures { result ≡ place_behind 0 from (drop from reply.now) }
 {
-    let mut k = from;
-    while k < reply.len() {
-        if reply[k] == 35 {
-            return k + 1;
-        }
-        k += 1;
+    match reply[from..].iter().position(|c| *c == b'#') {
+        Some(k) => from + k + 1,
+        None => reply.len(),
     }
-    k
 }
 
 // The place behind hash number i.
 fn behind_hash(reply: &[u8], i: usize) -> usize
     ensures { result ≡ place_behind i 0 reply.now }
 {
-    let mut p: usize = 0;
-    let mut k: usize = 0;
-    while k < i {
+    let mut p = 0;
+    for _k in 0..i {
         p = behind(reply, p);
-        k += 1;
     }
     behind(reply, p)
 }
 
-// How many digits stand behind an `x` or a `b`.
-fn size_at(reply: &[u8], p: usize) -> usize
+// The base of the digits behind an `x` or a `b`, and how many they are.
+fn base_at(reply: &[u8], p: usize) -> Base
     requires { p < length reply.now }
-    ensures { result ≡ size_at reply.now p }
+    ensures number { result.number ≡ base_at reply.now p }
+    ensures size { result.size ≡ size_at reply.now p }
 {
-    if reply[p] == 120 {
-        return HEX_DIGITS;
+    if reply[p] == b'x' {
+        return Base {
+            number: 16,
+            size: HEX_DIGITS,
+        };
     }
-    BINARY_DIGITS
-}
-
-// The base of the digits behind an `x` or a `b`.
-fn base_at(reply: &[u8], p: usize) -> u16
-    requires { p < length reply.now }
-    ensures { result ≡ base_at reply.now p }
-{
-    if reply[p] == 120 {
-        return 16;
+    Base {
+        number: 2,
+        size: BINARY_DIGITS,
     }
-    2
-}
-
-// The digits behind an `x` or a `b`.
-fn digits_at(reply: &[u8], p: usize) -> &[u8]
-    requires { Based reply.now p }
-    ensures { PartAt reply.entry result (p + 1) (size_at reply.now p) }
-{
-    let start = p + 1;
-    let end = start + size_at(reply, p);
-    &reply[start..end]
-}
-
-// One more digit behind a number.
-fn with_digit(n: u16, base: u16, digit: u8) -> u16
-    requires { n * base + digit_value digit < word_limit }
-    ensures { result ≡ n * base + digit_value digit }
-{
-    n * base + replies::digit(digit) as u16
 }
 
 // The number of digits to a base.
@@ -94,11 +71,9 @@ fn number(digits: &[u8], base: u16) -> u16
     requires { SixteenBits base digits.now }
     ensures { result ≡ number_of base (map digit_value digits.now) }
 {
-    let mut n: u16 = 0;
-    let mut k: usize = 0;
-    while k < digits.len() {
-        n = with_digit(n, base, digits[k]);
-        k += 1;
+    let mut n = 0;
+    for digit in digits {
+        n = n * base + u16::from(replies::digit(*digit));
     }
     n
 }
@@ -108,22 +83,10 @@ fn value_at(reply: &[u8], p: usize) -> i32
     requires { Based reply.now p }
     ensures { result ≡ dec value_bits (number_at reply.now p) }
 {
-    let n = number(digits_at(reply, p), base_at(reply, p));
-    numbers::signed(n) as i32
-}
-
-// As `numbers`, in a row of any length that has room for the case.
-fn numbers_in(reply: &[u8], count: usize, row: &mut [i32])
-    requires { CaseSpelled count reply.now × (count ≤ length row.old) }
-    ensures { Numbered count reply.now row.old row.new }
-{
-    let mut p: usize = 0;
-    let mut i: usize = 0;
-    while i < count {
-        p = behind(reply, p);
-        row[i] = value_at(reply, p);
-        i += 1;
-    }
+    let base = base_at(reply, p);
+    let start = p + 1;
+    let n = number(&reply[start..start + base.size], base.number);
+    i32::from(numbers::signed(n))
 }
 
 // Puts the case that the reply spells at the front of the row, in one pass over the reply; the other numbers stay.
@@ -131,7 +94,11 @@ pub fn numbers(reply: &[u8], count: usize, row: &mut [i32; MOST_VARIABLES])
     requires { CaseSpelled count reply.now }
     ensures { Numbered count reply.now row.old row.new }
 {
-    numbers_in(reply, count, row)
+    let mut p = 0;
+    for value in &mut row[..count] {
+        p = behind(reply, p);
+        *value = value_at(reply, p);
+    }
 }
 
 // Where variable i's digits start, and how many they are.
@@ -142,6 +109,6 @@ pub fn span_of(reply: &[u8], i: usize) -> Span
     let p = behind_hash(reply, i);
     Span {
         start: p + 1,
-        size: size_at(reply, p),
+        size: base_at(reply, p).size,
     }
 }

@@ -117,20 +117,6 @@ left-none {s = s} {k = k} w e = record { same = λ p. w.left p ∙ ap (λ (q : P
 left-pass : {f g e : Pattern → Pattern} (m : Pattern → Pattern) {s : List ℕ} {h k : ℕ} {r : Result ℕ ℕ} → Left f g s h k → ((p : Pattern) → g p ≡ e (m p)) → Passes e s k r → (p : Pattern) → stops (f p) h (drop h s) ≡ stop_from (m p) s r
 left-pass m {s = s} {k = k} w q x p = w.left p ∙ ap (λ (n : Pattern). stops n k (drop k s)) (q p) ∙ x.same (m p)
 
--- the bytes of a text
-module _ (w : List ℕ) (j : ℕ) {s : List ℕ} {h k : ℕ} (x : Left (exact w) (exact (drop j w)) s h k) where
-  parted : j < length w → (p : Pattern) → exact (drop j w) p ≡ one (eqb (get_or w j 0)) (exact (drop (suc j) w) p)
-  parted l p = ap (λ (u : List ℕ). exact u p) (drop-cons w j 0 l)
-
-  pub text-turn : {i : ℕ} → j < length w → Passes (one (eqb (get_or w j 0))) s k (Ok i) → Left (exact w) (exact (drop (j + 1) w)) s h i
-  text-turn l y = rw add-one (record { left = left-pass _ x (parted l) y })
-
-  pub text-off : {i : ℕ} → j < length w → Passes (one (eqb (get_or w j 0))) s k (Err i) → Passes (exact w) s h (Err i)
-  text-off l y = record { same = left-pass _ x (parted l) y }
-
-  pub text-done : length w ≤ j → Passes (exact w) s h (Ok k)
-  text-done l = left-none x (λ p. ap (λ (u : List ℕ). exact u p) (drop_of_length-le w l))
-
 -- digits: i of n are read
 pub record DigitsLeft (n base i : ℕ) (s : List ℕ) (h k : ℕ) : Type 0 where
   pub digits : Left (times n (digit_to base)) (times (n - i) (digit_to base)) s h k

@@ -1,16 +1,22 @@
--- `digits::behind` meets its contract. Invariant: the hash that is looked for is the first from k on. Assumes nothing.
-use borrow.Author.Rules.{rules}
-use Rattle.digits.proofs.HashScan.{looking-begin, looking-here, looking-turn, looking-end}
+-- `digits::behind` meets its contract. Assumes nothing.
+use mathlib.Core.Path.{◌∙◌}
+use lib.Dec.{eqb}
+use lib.ListN.{drop}
+use Rattle.std.proofs.Common.{rules, tests}
+use Rattle.std.proofs.lemmas.Iterator.{YieldsList-from_slice}
+use Rattle.std.proofs.lemmas.Iterator.Search.{position_from_yields_List}
+use Rattle.std.proofs.lemmas.List.{take_rest}
+use Rattle.digits.proofs.HashScan.{behind-some, behind-none}
 use Rattle.digits.proofs.behind.Goals as goal
 
-pub loop-k-init : goal.loop-k-init
-loop-k-init c = looking-begin _ _ (search rules)
+pub returns-in-Some : goal.returns-in-Some
+returns-in-Some c =
+    let s = c.args.reply.now in
+    let f = position_from_yields_List (λ d. eqb d 35) _ _ c.position.result c.position.ensures.ran (YieldsList-from_slice (drop c.args.from s) (c.iter.ensures.rest ∙ take_rest s c.args.from)) (λ x b q k. search (rules, tests)) in
+    behind-some s c.args.from f c.in-Some.is
 
-pub returns-then-reply-k-eq35 : goal.returns-then-reply-k-eq35
-returns-then-reply-k-eq35 c = looking-here c.loop-k.invariant c.loop-k-test.true c.if-reply-k-eq35.true
-
-pub loop-k-preserved : goal.loop-k-preserved
-loop-k-preserved c = looking-turn c.loop-k.invariant c.loop-k-test.true c.if-reply-k-eq35.false
-
-pub returns : goal.returns
-returns c = looking-end c.loop-k.invariant c.loop-k-test.false
+pub returns-in-None : goal.returns-in-None
+returns-in-None c =
+    let s = c.args.reply.now in
+    let f = position_from_yields_List (λ d. eqb d 35) _ _ c.position.result c.position.ensures.ran (YieldsList-from_slice (drop c.args.from s) (c.iter.ensures.rest ∙ take_rest s c.args.from)) (λ x b q k. search (rules, tests)) in
+    behind-none s c.args.from f c.requires c.in-None.is
