@@ -1,67 +1,51 @@
--- The column of a place, byte by byte. Assumes nothing.
-use Prim.Native.Nat.{ℕ, suc, ◌+◌, ◌<◌, ◌≤◌}
-use mathlib.Core.Path.{◌≡◌, refl, sym, ap, ◌∙◌}
-use mathlib.Core.Bool.{Bool, true, false}
-use mathlib.Core.List.{List, [], ◌∷◌}
-use native.Mathlib.Numerals.{add-one}
+-- The column of a place: one more than the bytes behind the last line feed before it. Assumes nothing.
+use Prim.Native.Nat.{ℕ, zero, suc, ◌+◌, ◌-◌, ◌≤◌}
+use mathlib.Core.Path.{◌≡◌, refl, ap, ◌∙◌}
+use mathlib.Core.Bool.{Bool, true, false, not}
+use mathlib.Core.List.{List, [], ◌∷◌, ◌++◌}
 use native.Mathlib.Omega.{arith}
 use lib.Dec.{eqb}
-use borrow.Author.Tests.{eq-eqb, ne_eqb}
-use lib.ListN.{length, get_or, take, drop, drop_of_length-le}
-use lib.Seq.{drop-cons, get_or-take, length-take-le}
+use lib.ListN.{length, get_or, take}
+use lib.Seq.{take-suc, length-take-le}
+use Rattle.std.specs.List.{suffix_len}
+use Rattle.std.proofs.lemmas.List.Sums.{count_by-le-length, suffix_len-take_no, suffix_len-take_yes}
 use Rattle.texts.specs.Counts.{occurrences}
+use Rattle.words.proofs.Scanning.{occurrences_counted}
 use Rattle.pointing.specs.Pointing.{column_from, column_of}
 
-column-feed : (n c : ℕ) (s : List ℕ) → c ≡ 10 → column_from n (c ∷ s) ≡ column_from 1 s
-column-feed n c s e = rw (eq-eqb c 10 e, column_from)
+module _ (c : ℕ) where
+  abbrev more : ℕ → ℕ
+  more n = elim (eqb c 10) [ true ↦ 1 | false ↦ suc n ]
 
-column-byte : (n c : ℕ) (s : List ℕ) → (c ≡ 10 → ⊥) → column_from n (c ∷ s) ≡ column_from (suc n) s
-column-byte n c s f = rw (ne_eqb c 10 f, column_from)
+  more-at : (b : Bool) (d n : ℕ) (s : List ℕ) → column_from 1 (s ++ (c ∷ [])) ≡ more (column_from 1 s) → column_from (suc n) (s ++ (c ∷ [])) ≡ more (column_from (suc n) s) →
+      elim b [ true ↦ column_from 1 (s ++ (c ∷ [])) | false ↦ column_from (suc n) (s ++ (c ∷ [])) ] ≡ more (elim b [ true ↦ column_from 1 s | false ↦ column_from (suc n) s ])
+  more-at true d n s e f = e
+  more-at false d n s e f = f
 
--- the column of the place is that of what stands from k on
-pub record Within (s : List ℕ) (place column k : ℕ) : Type 0 where
-  pub inside : k ≤ place
-  pub few : column ≤ k + 1
-  pub same : column_of s place ≡ column_from column (drop k (take place s))
+  -- one more byte
+  column-more : (n : ℕ) (s : List ℕ) → column_from n (s ++ (c ∷ [])) ≡ more (column_from n s)
+  column-more n [] = refl
+  column-more n (d ∷ s) = more-at (eqb d 10) d n s (column-more 1 s) (column-more (suc n) s)
 
-pub within-begin : (s : List ℕ) (place : ℕ) → Within s place 1 0
-within-begin s place = record { inside = omega arith; few = omega arith; same = refl }
+abbrev unfed : ℕ → Bool
+unfed c = not (eqb c 10)
 
-module _ {s : List ℕ} {place column k : ℕ} (within : place ≤ length s) (w : Within s place column k) where
-  module _ (l : k < place) where
-    next-byte : drop k (take place s) ≡ get_or s k 0 ∷ drop (suc k) (take place s)
-    next-byte =
-        let m : k < length (take place s) = omega (arith, length-take-le place s within) in
-        drop-cons (take place s) k 0 m ∙ ap (λ (c : ℕ). c ∷ drop (suc k) (take place s)) (get_or-take place s k 0 l)
+module _ (s : List ℕ) (n : ℕ) (l : suc n ≤ length s) (e : column_of s n ≡ suffix_len unfed (take n s) + 1) where
+  gone : (b : Bool) → eqb (get_or s n 0) 10 ≡ b → unfed (get_or s (suc n - 1) 0) ≡ not b
+  gone b t = let m : suc n - 1 ≡ n = omega arith in ap (λ (k : ℕ). unfed (get_or s k 0)) m ∙ ap not t
 
-    pub within-feed : get_or s k 0 ≡ 10 → {next : ℕ} → next ≡ 1 → Within s place next (k + 1)
-    within-feed e h = record {
-      inside = omega arith;
-      few = omega arith;
-      same = rw (h, add-one k) (w.same ∙ ap (column_from column) next-byte ∙ column-feed column (get_or s k 0) (drop (suc k) (take place s)) e);
-    }
+  rest : suffix_len unfed (take (suc n - 1) s) ≡ suffix_len unfed (take n s)
+  rest = let m : suc n - 1 ≡ n = omega arith in ap (λ (k : ℕ). suffix_len unfed (take k s)) m
 
-    pub within-byte : (get_or s k 0 ≡ 10 → ⊥) → {next : ℕ} → next ≡ column + 1 → Within s place next (k + 1)
-    within-byte f h = record {
-      inside = omega arith;
-      few = omega (arith, w.few);
-      same = rw (h, add-one k, add-one column) (w.same ∙ ap (column_from column) next-byte ∙ column-byte column (get_or s k 0) (drop (suc k) (take place s)) f);
-    }
+  counted-more : (b : Bool) → eqb (get_or s n 0) 10 ≡ b → elim b [ true ↦ 1 | false ↦ suc (column_of s n) ] ≡ suffix_len unfed (take (suc n) s) + 1
+  counted-more true t = omega (arith, suffix_len-take_no unfed s (suc n) 0 (omega arith) l (gone true t))
+  counted-more false t = omega (arith, rest, suffix_len-take_yes unfed s (suc n) 0 (omega arith) l (gone false t))
 
-  pub within_end : place ≤ k → column ≡ column_of s place
-  within_end l =
-      let m : length (take place s) ≤ k = omega (arith, length-take-le place s within) in
-      sym (w.same ∙ ap (column_from column) (drop_of_length-le (take place s) m))
+pub column_counted : (s : List ℕ) (place : ℕ) → place ≤ length s → column_of s place ≡ suffix_len (λ c. not (eqb c 10)) (take place s) + 1
+column_counted s zero l = refl
+column_counted s (suc n) l =
+    ap (column_from 1) (take-suc s n 0 l) ∙ column-more (get_or s n 0) 1 (take n s) ∙ counted-more s n l (column_counted s n (omega arith)) (eqb (get_or s n 0) 10) refl
 
--- a byte stands in a list at most as often as the list has bytes
-pub few-occurrences : (b : ℕ) (s : List ℕ) → occurrences b s ≤ length s
-unfolding occurrences
-few-occurrences b [] = omega arith
-few-occurrences b (c ∷ s) = by (eqb b c) (few-occurrences b s)
-  where
-    by : (t : Bool) → occurrences b s ≤ length s → elim t [ true ↦ suc (occurrences b s) | false ↦ occurrences b s ] ≤ suc (length s)
-    by true l = omega arith
-    by false l = omega arith
-
-pub line-few : (s : List ℕ) (place : ℕ) → place ≤ length s → {n : ℕ} → n ≡ occurrences 10 (take place s) → n ≤ place
-line-few s place l e = omega (arith, few-occurrences 10 (take place s), length-take-le place s l)
+-- a byte stands in a part at most as often as the part has bytes
+pub line_few : (s : List ℕ) (place : ℕ) → place ≤ length s → occurrences 10 (take place s) ≤ place
+line_few s place l = omega (arith, occurrences_counted 10 (take place s), count_by-le-length (λ c. eqb c 10) (take place s), length-take-le place s l)

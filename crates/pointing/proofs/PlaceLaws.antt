@@ -1,13 +1,22 @@
 -- Places of names and of nodes' words: how many there are, and which comes where. Assumes nothing.
 use Prim.Native.Nat.{ℕ, zero, suc, ◌+◌, ◌<◌, ◌≤◌}
 use mathlib.Core.Path.{◌≡◌, refl, sym, ap, ap₂, ◌∙◌}
+use mathlib.Core.Bool.{Bool, true, false, cond}
 use mathlib.Core.List.{List, [], ◌∷◌, ◌++◌, append_assoc, append-nil}
+use mathlib.Core.Logic.{◌⊎◌, inl, inr}
 use mathlib.Core.Option.{Option, none, some}
 use native.Mathlib.Omega.{arith}
 use lib.ListN.{length, length-append}
-use borrow.Author.Tests.{eq-eqb, ne_eqb}
-use Rattle.meaning.specs.Rule.{Variable}
+use lib.Dec.{eqb}
+use borrow.Author.Tests.{ne_eqb, eqb-true}
+use Rattle.std.specs.Prelude.{Result, Ok, Err, Some, None}
+use Rattle.std.specs.Result.{result_ok}
+use Rattle.meaning.specs.Rule as rule
+use Rattle.refusals.specs.declared.Cause.{Cause}
+use Rattle.refusals.specs.declared.Cause.TheVariants.{Length, Check, Edition, Counts, Variable, Node, Sort, Range, Room, Cases, Reply, Value, Holds, Text, Word}
 use Rattle.refusals.specs.declared.Refusal.{Refusal}
+use Rattle.refusals.specs.Causes.{number_of, with_number, caused_by, cause_of}
+use Rattle.refusals.proofs.SaidLaws.{caused-by-number}
 use Rattle.texts.specs.Expressions.{Expression, bare, number, variable, one, two, three, records_of, Draft}
 use Rattle.texts.specs.Plain.{plain_of, spelled, variable_line}
 use Rattle.texts.proofs.CountLaws.{node_count, count-one, count-two, count-three}
@@ -36,11 +45,11 @@ nth_past (x ∷ xs) (suc n) l = nth_past xs n (omega arith)
 
 -- ---- names
 
-pub name-places-count : (vs : List Variable) (p : ℕ) → length (name_places vs p) ≡ length vs
+pub name-places-count : (vs : List rule.Variable) (p : ℕ) → length (name_places vs p) ≡ length vs
 name-places-count [] p = refl
 name-places-count (v ∷ vs) p = ap suc (name-places-count vs (p + length (variable_line v)))
 
-pub no_name : (vs : List Variable) (i : ℕ) {n : ℕ} → n ≡ length vs → n ≤ i → none ≡ nth (name_places vs 0) i
+pub no_name : (vs : List rule.Variable) (i : ℕ) {n : ℕ} → n ≡ length vs → n ≤ i → none ≡ nth (name_places vs 0) i
 no_name vs i e l = sym (nth_past (name_places vs 0) i (omega (arith, name-places-count vs 0)))
 
 -- ---- nodes
@@ -58,7 +67,7 @@ pub nodes-append : (es fs : List Expression) → nodes_in (es ++ fs) ≡ nodes_i
 nodes-append [] fs = omega arith
 nodes-append (e ∷ es) fs = omega (arith, nodes-append es fs)
 
-module _ (vs : List Variable) where
+module _ (vs : List rule.Variable) where
   pub bytes-open : (e : Expression) → length (spelled vs e) ≡ length (head_of vs e) + bytes_in vs (operands_in e)
   unfolding spelled
   bytes-open (bare k) = omega arith
@@ -129,23 +138,69 @@ module _ (vs : List Variable) where
 
 -- ---- where a refusal points
 
-pub points-name : (d : Draft) (r : Refusal) → r.number ≡ 5 → pointed_at d r ≡ nth (name_places d.variables 0) r.place
+-- by the cause that its number has
+abbrev points : Draft → ℕ → Option Cause → Option ℕ
+points d p (some Variable) = nth (name_places d.variables 0) p
+points d p (some Sort) = nth (word_places d.variables d.goal (goal_place d.variables)) p
+points d p (some Range) = nth (word_places d.variables d.goal (goal_place d.variables)) p
+points d p _ = none
+
+points-caused : (d : Draft) (p : ℕ) (c : Cause) → pointed_at d (record { number = number_of c; place = p }) ≡ points d p (some c)
 unfolding pointed_at
-points-name d r e = rw (eq-eqb r.number 5 e)
+points-caused d p Variable = refl
+points-caused d p Sort = refl
+points-caused d p Range = refl
+points-caused d p _ = refl
 
-module _ (d : Draft) (r : Refusal) (no_name : r.number ≡ 5 → ⊥) where
-  abbrev word : Option ℕ
-  word = nth (word_places d.variables d.goal (goal_place d.variables)) r.place
+abbrev causes : List Cause
+causes = Length ∷ Check ∷ Edition ∷ Counts ∷ Variable ∷ Node ∷ Sort ∷ Range ∷ Room ∷ Cases ∷ Reply ∷ Value ∷ Holds ∷ Text ∷ Word ∷ []
 
-  pub points-seven : r.number ≡ 7 → pointed_at d r ≡ word
-  unfolding pointed_at
-  points-seven e = rw (ne_eqb r.number 5 no_name, eq-eqb r.number 7 e)
+with-number-is : (cs : List Cause) (n : ℕ) (c : Cause) → with_number cs n ≡ some c → number_of c ≡ n
+with-number-is [] n c e = cc
+with-number-is (k ∷ cs) n c e = by (eqb (number_of k) n) refl e (with-number-is cs n c)
+  where
+    by : (b : Bool) → eqb (number_of k) n ≡ b → cond b (some k) (with_number cs n) ≡ some c → (with_number cs n ≡ some c → number_of c ≡ n) → number_of c ≡ n
+    by true t f g = let h : k ≡ c = cc in ap number_of (sym h) ∙ eqb-true _ _ t
+    by false t f g = g f
 
-  module _ (no_seven : r.number ≡ 7 → ⊥) where
-    pub points-eight : r.number ≡ 8 → pointed_at d r ≡ word
-    unfolding pointed_at
-    points-eight e = rw (ne_eqb r.number 5 no_name, ne_eqb r.number 7 no_seven, eq-eqb r.number 8 e)
+points-of : (d : Draft) (r : Refusal) (o : Option Cause) → o ≡ caused_by r.number → points d r.place o ≡ pointed_at d r
+unfolding pointed_at
+points-of d r (some c) e =
+    let n : number_of c ≡ r.number = with-number-is causes r.number c (sym e) in
+    sym (points-caused d r.place c) ∙ ap (λ (m : ℕ). pointed_at d (record { number = m; place = r.place })) n
+points-of d r none e =
+    let away : (c : Cause) → r.number ≡ number_of c → ⊥ = λ c h. let k : caused_by r.number ≡ some c = ap caused_by h ∙ caused-by-number c in cc in
+    rw (ne_eqb r.number 5 (away Variable), ne_eqb r.number 7 (away Sort), ne_eqb r.number 8 (away Range))
 
-    pub points-nowhere : (r.number ≡ 8 → ⊥) → pointed_at d r ≡ none
-    unfolding pointed_at
-    points-nowhere f = rw (ne_eqb r.number 5 no_name, ne_eqb r.number 7 no_seven, ne_eqb r.number 8 f)
+-- by what the conversion of its number gives
+module _ (d : Draft) (r : Refusal) (t : Result Cause Unit) (e : cause_of t ≡ caused_by r.number) where
+  given : (t : Result Cause Unit) (c : Cause) → Some c ≡ result_ok t → some c ≡ cause_of t
+  given (Ok k) c h = let q : c ≡ k = cc in ap some q
+  given (Err u) c h = cc
+
+  pub points-nowhere : None ≡ result_ok t → none ≡ pointed_at d r
+  points-nowhere h = points-of d r none (lost t h ∙ e)
+    where
+      lost : (t : Result Cause Unit) → None ≡ result_ok t → none ≡ cause_of t
+      lost (Ok k) h = cc
+      lost (Err u) h = refl
+
+  module _ {c : Cause} (h : Some c ≡ result_ok t) where
+    points-there : points d r.place (some c) ≡ pointed_at d r
+    points-there = points-of d r (some c) (given t c h ∙ e)
+
+    pub points-name : c ≡ Variable → nth (name_places d.variables 0) r.place ≡ pointed_at d r
+    points-name q = ap (λ (k : Cause). points d r.place (some k)) (sym q) ∙ points-there
+
+    pub points-word : (c ≡ Sort) ⊎ (c ≡ Range) → nth (word_places d.variables d.goal (goal_place d.variables)) r.place ≡ pointed_at d r
+    points-word (inl q) = ap (λ (k : Cause). points d r.place (some k)) (sym q) ∙ points-there
+    points-word (inr q) = ap (λ (k : Cause). points d r.place (some k)) (sym q) ∙ points-there
+
+    pub points-other : (c ≡ Variable → ⊥) → (c ≡ Sort → ⊥) → (c ≡ Range → ⊥) → none ≡ pointed_at d r
+    points-other v s w = other c v s w ∙ points-there
+      where
+        other : (c : Cause) → (c ≡ Variable → ⊥) → (c ≡ Sort → ⊥) → (c ≡ Range → ⊥) → none ≡ points d r.place (some c)
+        other Variable v s w = absurd (v refl)
+        other Sort v s w = absurd (s refl)
+        other Range v s w = absurd (w refl)
+        other _ v s w = refl

@@ -1,13 +1,10 @@
 -- The loops over an expression's words: to its end, and to the word of a node. Assumes nothing.
 use Prim.Native.Nat.{ℕ, ◌+◌, ◌-◌, ◌<◌, ◌≤◌}
 use mathlib.Core.Path.{◌≡◌, refl, sym, ap, subst, ◌∙◌}
-use mathlib.Core.Bool.{Bool, true, false, cond}
 use mathlib.Core.List.{List, [], ◌∷◌, ◌++◌, append-nil}
 use mathlib.Core.Option.{some}
 use native.Mathlib.Omega.{arith}
-use lib.Dec.{ltb}
 use lib.ListN.{length, length-append, drop}
-use borrow.Author.Tests.{ltb-true, ltb-false}
 use Rattle.meaning.specs.Rule.{Variable}
 use Rattle.grammar.specs.Words.{word_length}
 use Rattle.texts.specs.Expressions.{Expression}
@@ -168,19 +165,3 @@ module _ {vs : List Variable} {e : Expression} {s : List ℕ} {p n k first : ℕ
         (hunted vs e others-at (first + nodes) r x.others (stand-behind x.stand) (omega arith) (omega (arith, x.below, x.split, hunt-nodes))
         (x.same ∙ ap (nth (w ++ places_in vs x.others others-at)) q ∙ nth-behind w (places_in vs x.others others-at) r)
         (omega (arith, x.few, hunt-nodes, node-bytes vs x.front)))
-
-    -- the next turn's place, and the number of the first node there
-    module _ (away : first + nodes ≡ n + 1 → ⊥) {inner : ℕ} (down : inner ≡ k + word_length separates (drop k s) + 1) where
-      pub hunt-turn : {j f : ℕ} → j ≡ cond (ltb n (first + nodes)) inner behind → f ≡ cond (ltb n (first + nodes)) first (first + nodes) → Hunt vs e s p n j f
-      hunt-turn = by (ltb n (first + nodes)) refl
-        where
-          by : (b : Bool) → ltb n (first + nodes) ≡ b → {j f : ℕ} → j ≡ cond b inner behind → f ≡ cond b first (first + nodes) → Hunt vs e s p n j f
-          by true t {j} {f} g h = rw (g, h) (hunt-down away (ltb-true n (first + nodes) t) down)
-          by false t {j} {f} g h = rw (g, h) (hunt-past (ltb-false n (first + nodes) t))
-
-      pub hunt-rises : {j : ℕ} → j ≡ cond (ltb n (first + nodes)) inner behind → k < j
-      hunt-rises = by (ltb n (first + nodes))
-        where
-          by : (b : Bool) → {j : ℕ} → j ≡ cond b inner behind → k < j
-          by true g = omega arith
-          by false g = omega (arith, hunt-behind)

@@ -6,6 +6,8 @@ use mathlib.Core.List.{List, [], ◌∷◌, ◌++◌, append_assoc}
 use native.Mathlib.Omega.{arith}
 use lib.ListN.{length, length-append, take, drop, length-drop}
 use lib.Seq.{drop_at, drop-drop}
+use Rattle.std.specs.Prelude.{Option, Some, None}
+use Rattle.std.specs.Option.{unwrap_or}
 use Rattle.meaning.specs.Rule.{Variable}
 use Rattle.kinds.specs.declared.Kind.{Kind}
 use Rattle.kinds.specs.Kinds.{row}
@@ -19,6 +21,7 @@ use Rattle.texts.specs.Places.{separates, first_word}
 use Rattle.texts.proofs.SpellingLaws.{kind-named, name-no-kind, number-no-kind, space-separates, word-unbroken, number-unbroken, name-unbroken}
 use Rattle.texts.proofs.DraftLaws.{first-word, declared-name}
 use Rattle.texts.proofs.TextLaws.{unknown-none}
+use Rattle.words.specs.Operands.{behind_said}
 use Rattle.pointing.specs.Standing.{operands_in, or_zero, operand_count, head_of, bytes_in, Next, Row, StandAt}
 
 -- ---- a word and a separator at a place
@@ -50,13 +53,17 @@ kind-count k h = ap (λ (j : Kind). or_zero (operands_behind (row j).shape)) (ki
 other-count : (w : List ℕ) → kind_named w ≡ Kind.Unknown → operand_count w ≡ 0
 other-count w e = ap or_zero (unknown-none w e)
 
+said-or-zero : (o : Option ℕ) → unwrap_or o 0 ≡ or_zero (behind_said o)
+said-or-zero None = refl
+said-or-zero (Some n) = refl
+
 -- the operands behind the word from a place to its end
-pub operands-there : (s : List ℕ) (p : ℕ) {end r : ℕ} {k : Kind} →
-    end ≡ p + word_length separates (drop p s) → k ≡ kind_named (take (end - p) (drop p s)) → r ≡ or_zero (operands_behind (row k).shape) → r ≡ operand_count (first_word (drop p s))
+pub operands-there : (s : List ℕ) (p : ℕ) {end r : ℕ} {k : Kind} (o : Option ℕ) →
+    end ≡ p + word_length separates (drop p s) → k ≡ kind_named (take (end - p) (drop p s)) → behind_said o ≡ operands_behind (row k).shape → r ≡ unwrap_or o 0 → r ≡ operand_count (first_word (drop p s))
 unfolding first_word
-operands-there s p {end} e f g =
+operands-there s p {end} o e f h g =
     let n : end - p ≡ word_length separates (drop p s) = omega arith in
-    g ∙ ap (λ (j : Kind). or_zero (operands_behind (row j).shape)) (f ∙ ap (λ (m : ℕ). kind_named (take m (drop p s))) n)
+    g ∙ said-or-zero o ∙ ap or_zero h ∙ ap (λ (j : Kind). or_zero (operands_behind (row j).shape)) (f ∙ ap (λ (m : ℕ). kind_named (take m (drop p s))) n)
 
 module _ (vs : List Variable) (d : AllDeclarable vs) where
   pub head-unbroken : (e : Expression) → Writable vs e → Without separates (head_of vs e)

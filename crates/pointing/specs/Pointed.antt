@@ -1,9 +1,8 @@
 -- What an answer of `point` says: a place, or nothing.
-use Rattle.std.specs.Prelude.{ℕ}
+use Rattle.std.specs.Prelude.{ℕ, Some, None}
+use Rattle.std.specs.Prelude as prelude
 use Rattle.std.proofs.Math.Option.{Option, none, some}
-use Rattle.pointing.specs.declared.Pointed.{Pointed}
-use Rattle.pointing.specs.declared.Pointed.TheVariants.{Nowhere, At}
 
-abbrev pub pointed_said : Pointed → Option ℕ
-pointed_said Nowhere = none
-pointed_said (At p) = some p
+abbrev pub pointed_said : prelude.Option ℕ → Option ℕ
+pointed_said None = none
+pointed_said (Some p) = some p

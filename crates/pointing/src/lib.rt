@@ -1,19 +1,17 @@
 // Where a refusal of a text points: the byte, and its line and column.
 #![tactic(auto)]
 
-ghost use Rattle.std.specs.Prelude.{◌≡◌, cond, ◌+◌, ◌≤◌, ◌<◌, length, drop};
-ghost use Rattle.kinds.specs.Kinds.{row};
+ghost use Rattle.std.specs.Prelude.{◌≡◌, ◌+◌, ◌≤◌, ◌<◌, length, drop};
 ghost use Rattle.grammar.specs.Words.{word_length};
 ghost use Rattle.texts.specs.Expressions.{Draft, records_of};
-ghost use Rattle.texts.specs.Texts.{operands_behind, Says, Text};
+ghost use Rattle.texts.specs.Texts.{Says, Text};
 ghost use Rattle.texts.specs.Places.{separates, first_word};
 ghost use Rattle.pointing.specs.Pointing.{name_places, word_places, goal_place, nth, pointed_at, line_of, column_of};
 ghost use Rattle.pointing.specs.Pointed.{pointed_said};
-ghost use Rattle.pointing.specs.Standing.{or_zero, operand_count, Begun, Spans, Reaches, Finds};
+ghost use Rattle.pointing.specs.Standing.{operand_count, Begun, Spans, Reaches, Finds};
 ghost use Rattle.pointing.specs.Lines.{LineBegun, PassesLine, LinesReach, LineAt};
 
-use kinds::{Kind, Shape};
-use refusals::Refusal;
+use refusals::{Cause, Refusal};
 
 // The bytes before a line's name: `var` and a space.
 const NAME_START: usize = 4;
@@ -21,26 +19,11 @@ const NAME_START: usize = 4;
 // The bytes before the goal's expression: `goal` and a space.
 const GOAL_START: usize = 5;
 
-#[derive(Clone, Copy)]
-pub enum Pointed {
-    Nowhere,
-    At(usize),
-}
-
 // The place behind an expression and its separator, and how many nodes it has.
 #[derive(Clone, Copy)]
 struct Extent {
     behind: usize,
     nodes: usize,
-}
-
-fn choose(test: bool, this: usize, other: usize) -> usize
-    ensures { result ≡ cond test this other }
-{
-    if test {
-        return this;
-    }
-    other
 }
 
 // Behind the word that begins at a place, and its separator.
@@ -69,11 +52,9 @@ fn line_start(text: &[u8], i: usize) -> usize
     requires { LinesReach text.now i }
     ensures { (d : Draft) → Says text.now d → i ≤ length d.variables → LineAt d text.now i result }
 {
-    let mut line: usize = 0;
-    let mut k: usize = 0;
-    while k < i {
+    let mut line = 0;
+    for _ in 0..i {
         line = next_line(text, line);
-        k += 1;
     }
     line
 }
@@ -87,40 +68,26 @@ fn variable_count(text: &[u8]) -> usize
 }
 
 // Where the name of variable i stands.
-fn name_pointed(text: &[u8], i: usize) -> Pointed
+fn name_pointed(text: &[u8], i: usize) -> Option<usize>
     requires { Text text.now }
     ensures { (d : Draft) → Says text.now d → pointed_said result ≡ nth (name_places d.variables 0) i }
 {
     if i < variable_count(text) {
-        return Pointed::At(line_start(text, i) + NAME_START);
+        Some(line_start(text, i) + NAME_START)
+    } else {
+        None
     }
-    Pointed::Nowhere
 }
 
 // ---- nodes
 
-// How many operands stand behind a kind's word; none where it has no word.
-fn operands_of(kind: Kind) -> usize
-    ensures { result ≡ or_zero (operands_behind (row kind).shape) }
-{
-    match kinds::shape_of(kind) {
-        Shape::Wrong => 0,
-        Shape::Bare => 0,
-        Shape::Valued => 0,
-        Shape::Named => 0,
-        Shape::One(_) => 1,
-        Shape::Two(_, _) => 2,
-        Shape::Three(_, _, _) => 3,
-    }
-}
-
-// How many operands stand behind the word that begins at a place.
+// How many operands stand behind the word that begins at a place; none where it is no kind's.
 fn operands_at(text: &[u8], at: usize) -> usize
     requires { at ≤ length text.now }
     ensures { result ≡ operand_count (first_word (drop at text.now)) }
 {
     let end = words::word_end(text, at);
-    operands_of(words::kind_named(&text[at..end]))
+    words::operands_behind(words::kind_named(&text[at..end])).unwrap_or(0)
 }
 
 // The extent of the expression that stands at a place: its words, until no operand is to come.
@@ -129,8 +96,8 @@ fn extent_at(text: &[u8], at: usize) -> Extent
     ensures { Spans text.now at result.behind result.nodes }
 {
     let mut k = at;
-    let mut pending: usize = 1;
-    let mut nodes: usize = 0;
+    let mut pending = 1;
+    let mut nodes = 0;
     while 0 < pending {
         pending = pending - 1 + operands_at(text, k);
         k = behind(text, k);
@@ -145,16 +112,18 @@ fn word_of(text: &[u8], start: usize, n: usize) -> usize
     ensures { Finds text.now start n result }
 {
     let mut at = start;
-    let mut first: usize = 0;
+    let mut first = 0;
     loop {
         let here = extent_at(text, at);
         let next = first + here.nodes;
         if next == n + 1 {
             return at;
         }
-        let inside = n < next;
-        at = choose(inside, behind(text, at), here.behind);
-        first = choose(inside, first, next);
+        if n < next {
+            at = behind(text, at);
+        } else {
+            (at, first) = (here.behind, next);
+        }
     }
 }
 
@@ -175,36 +144,33 @@ fn goal_start(text: &[u8]) -> usize
 }
 
 // Where the word of node n stands.
-fn word_pointed(text: &[u8], n: usize) -> Pointed
+fn word_pointed(text: &[u8], n: usize) -> Option<usize>
     requires { Text text.now }
     ensures { (d : Draft) → Says text.now d → pointed_said result ≡ nth (word_places d.variables d.goal (goal_place d.variables)) n }
 {
     if n < node_count(text) {
-        return Pointed::At(word_of(text, goal_start(text), n));
+        Some(word_of(text, goal_start(text), n))
+    } else {
+        None
     }
-    Pointed::Nowhere
 }
 
 // ---- a refusal, and a place
 
 // Where a refusal of what a text says points.
-pub fn point(text: &[u8], refusal: Refusal) -> Pointed
+pub fn point(text: &[u8], refusal: Refusal) -> Option<usize>
     requires { Text text.now }
     ensures { (d : Draft) → Says text.now d → pointed_said result ≡ pointed_at d refusal }
 {
-    if refusal.number == 5 {
-        return name_pointed(text, refusal.place);
+    match Cause::try_from(refusal.number).ok()? {
+        Cause::Variable => name_pointed(text, refusal.place),
+        Cause::Sort | Cause::Range => word_pointed(text, refusal.place),
+        _ => None,
     }
-    if refusal.number == 7 {
-        return word_pointed(text, refusal.place);
-    }
-    if refusal.number == 8 {
-        return word_pointed(text, refusal.place);
-    }
-    Pointed::Nowhere
 }
 
 // The line in which a place stands.
+#[tactic(auto, using(crate::proofs::ColumnLaws::line_few))]
 pub fn line_of(text: &[u8], place: usize) -> usize
     requires { place ≤ length text.now }
     ensures { result ≡ line_of text.now place }
@@ -217,15 +183,10 @@ pub fn column_of(text: &[u8], place: usize) -> usize
     requires { place ≤ length text.now }
     ensures { result ≡ column_of text.now place }
 {
-    let mut column: usize = 1;
-    let mut k: usize = 0;
-    while k < place {
-        if text[k] == b'\n' {
-            column = 1;
-        } else {
-            column += 1;
-        }
-        k += 1;
-    }
-    column
+    text[..place]
+        .iter()
+        .rev()
+        .take_while(|c| **c != b'\n')
+        .count()
+        + 1
 }

@@ -4,7 +4,6 @@ use mathlib.Core.Path.{◌≡◌, refl, sym, ap, subst, ◌∙◌}
 use mathlib.Core.Bool.{Bool, true, false, not, cond, ◌&&◌}
 use mathlib.Core.List.{List, [], ◌∷◌}
 use denote.Ref.{Bor}
-use native.Mathlib.Nat.{zero-add}
 use native.Mathlib.Omega.{arith}
 use lib.ListN.{length, drop, take, length-drop, drop_of_length-le}
 use lib.Seq.{drop-drop}
@@ -134,9 +133,6 @@ name-none s w = refl
 pub record Naming (text word : List ℕ) (count line i : ℕ) : Type 0 where
   pub inside : line ≤ length text
   pub same : index_in (names_in count text) word ≡ i + index_in (names_in (count - i) (drop line text)) word
-
-pub naming-begin : (text word : List ℕ) (count : ℕ) → Naming text word count 0 0
-naming-begin text word count = record { inside = omega arith; same = let e : count ≡ count - 0 = omega arith in ap (λ (n : ℕ). index_in (names_in n text) word) e ∙ sym (zero-add _) }
 
 module _ {text word : List ℕ} {count line i : ℕ} (w : Naming text word count line i) where
   module _ {name : List ℕ} {b : Bool} (h : i < count) (n : name ≡ first_word (drop behind_var (drop line text))) (e : b ≡ same_bytes name word) where

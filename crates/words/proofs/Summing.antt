@@ -55,9 +55,6 @@ pub record Bounding (most : ℕ) (s : List ℕ) (n k : ℕ) : Type 0 where
   pub low : n ≤ most
   pub same : at_most most 0 s ≡ at_most most n (drop k s)
 
-pub bounding-begin : (most : ℕ) (s : List ℕ) → Bounding most s 0 0
-bounding-begin most s = record { low = omega arith; same = refl }
-
 module _ {most : ℕ} {s : List ℕ} {n k : ℕ} (w : Bounding most s n k) where
   split : k < length s → at_most most 0 s ≡ at_most most n (get_or s k 0 ∷ drop (suc k) s)
   split h = w.same ∙ ap (at_most most n) (drop-cons s k 0 h)
@@ -142,11 +139,6 @@ module _ {s : List ℕ} {n k : ℕ} (w : Summing s n k) where
     low = w.low;
     same = rw add-one (w.same ∙ ap (value_from n) (drop-cons s k 0 h) ∙ ap (λ (j : ℕ). value_from j (drop (suc k) s)) (sym e));
   }
-
-  pub summing-end : length s ≤ k → (n ≡ value_from 0 s) × (n ≤ 32768)
-  summing-end h =
-      let e : n ≡ value_from 0 s = sym (w.same ∙ ap (value_from n) (drop_of_length-le s h)) in
-      (e, omega (arith, w.low))
 
 -- ---- numbers with their sign
 

@@ -177,7 +177,7 @@ pub fn operands_behind(kind: Kind) -> Option<usize>
     }
 }
 
-// And one more; 0 where it has no word.
+// How many operands stand behind a kind's plain word, and one more; 0 where it has no word.
 pub fn operands(kind: Kind) -> usize
     ensures { result ≡ counted (operands_behind (row kind).shape) }
 {

@@ -7,4 +7,4 @@ pub slice_bounds-kind_named-end : goal.slice_bounds-kind_named-end
 slice_bounds-kind_named-end c = end-inside _ _ c.requires c.word_end-end.ensures
 
 pub returns : goal.returns
-returns c = operands-there _ c.args.at c.word_end-end.ensures c.kind_named.ensures c.operands_of.ensures
+returns c = operands-there _ c.args.at _ c.word_end-end.ensures c.kind_named.ensures c.operands_behind.ensures c.unwrap_or.ensures

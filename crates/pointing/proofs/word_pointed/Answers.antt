@@ -13,5 +13,5 @@ pub returns-then-n-node_count : goal.returns-then-n-node_count
 returns-then-n-node_count c = λ d h.
     goal-found h (c.goal_start.ensures d h) c.word_of.ensures (omega (arith, c.if-n-node_count.true, c.node_count.ensures d h))
 
-pub returns : goal.returns
-returns c = λ d h. no_word d.variables d.goal _ _ (c.node_count.ensures d h) c.if-n-node_count.false
+pub returns-else-n-node_count : goal.returns-else-n-node_count
+returns-else-n-node_count c = λ d h. no_word d.variables d.goal _ _ (c.node_count.ensures d h) c.if-n-node_count.false

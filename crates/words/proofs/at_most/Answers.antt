@@ -1,10 +1,7 @@
 -- `at_most` meets its contract. Invariant: the test is that of the digits from the index on, behind n. Assumes nothing.
 use borrow.Author.Rules.{rules}
-use Rattle.words.proofs.Summing.{bounding-begin, bounding-fits, bounding-none, bounding-over, bounding-turn, bounding-end}
+use Rattle.words.proofs.Summing.{bounding-fits, bounding-none, bounding-over, bounding-turn, bounding-end}
 use Rattle.words.proofs.at_most.Goals as goal
-
-pub loop-c-init : goal.loop-c-init
-loop-c-init c = bounding-begin _ _
 
 pub returns-then-not-is_ascii_digit : goal.returns-then-not-is_ascii_digit
 returns-then-not-is_ascii_digit c =

