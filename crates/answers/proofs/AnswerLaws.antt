@@ -9,6 +9,11 @@ use native.Mathlib.Omega.{arith}
 use lib.IntN.{ℤ, pos}
 use lib.ListN.{length, take, drop, replicate, length-append}
 use lib.Seq.{take_at, get_or-take, length-take-le}
+use Rattle.std.specs.Prelude.{Result, Ok, Err}
+use Rattle.refusals.specs.declared.Refused.{Refused}
+use Rattle.refusals.specs.Causes.{refusal_of as told_as}
+use Rattle.cases.specs.declared.Verdict.{Verdict}
+use Rattle.cases.specs.declared.Verdict.TheVariants.{Holds, Fails}
 use Rattle.io.specs.Counts.{IsPrefixLen}
 use Rattle.lists.specs.Ascii.{ascii}
 use Rattle.lists.proofs.FirstLaws.{otherwise-some}
@@ -19,24 +24,18 @@ use Rattle.meaning.proofs.Failures.{first-fails}
 use Rattle.layout.specs.Limits.{most_variables, most_nodes}
 use Rattle.layout.specs.Parts.{variable_count, rule_in}
 use Rattle.layout.proofs.PartLaws.{variable-total}
-use Rattle.refusals.specs.declared.Reading.{Reading}
-use Rattle.refusals.specs.declared.Reading.TheVariants.{Accepted, Refused}
 use Rattle.refusals.specs.Said.{said_of}
 use Rattle.refusals.proofs.AfterLaws.{passes}
 use Rattle.reading.specs.Cascade.{refusal_of}
 use Rattle.odometer.proofs.Domains.{case-narrow}
-use Rattle.cases.specs.declared.Checked.{Checked}
-use Rattle.cases.specs.declared.Checked.TheVariants.{Holds, Fails, Refused as check_refused}
 use Rattle.cases.specs.declared.Tallied.{Tallied}
 use Rattle.cases.specs.Checks.{try_refusal, check_refusal, checked_said, verdict, room_after, Checks}
-use Rattle.cases.specs.Tallies.{Tallies}
+use Rattle.cases.specs.Tallies.{tallied_said, held_said, failed_said, Tallies}
 use Rattle.cases.proofs.TryLaws.{accepted, tried-inside}
 use Rattle.wording.specs.Form.{sixteen}
 use Rattle.wording.specs.Script.{script}
 use Rattle.room.specs.Room.{within, over, Wrote}
 use Rattle.room.proofs.RoomLaws.{wrote_as}
-use Rattle.room.specs.declared.Written.{Written}
-use Rattle.room.specs.declared.Written.TheVariants.{Done as written, Refused as write_refused}
 use Rattle.room.specs.Written.{written_said, written_verdict, written_room, Fills}
 use Rattle.writer.specs.Writes.{enough_room, script_refusal, Writes}
 use Rattle.writer.proofs.ScriptLaws.{script-short}
@@ -72,20 +71,20 @@ unfolding answered
 refused t e = rw e
 
 -- a call that writes the text t to the room's front, unless it refuses
-module _ {o : Option Refusal} {t before after : List ℕ} {a : Written} (w : Fills o t before a after) where
-  pub filled-written : {n : ℕ} → a ≡ written n → Wrote (answered o t) before after 0 n
+module _ {o : Option Refusal} {t before after : List ℕ} {a : Result ℕ Refused} (w : Fills o t before a after) where
+  pub filled-written : {n : ℕ} → a ≡ Ok n → Wrote (answered o t) before after 0 n
   filled-written {n} d = go o refl (sym (ap written_said d) ∙ w.answer) w.room
     where
       go : (x : Option Refusal) → o ≡ x → (none, n) ≡ written_verdict x t → after ≡ written_room x t before → Wrote (answered o t) before after 0 n
       go none e p g = wrote_as (at_front (ap (λ (y : Option Refusal × ℕ). y.1) p) g) (told e)
       go (some r) e p g = absurd (none-ne-some r (ap refusal_in p))
 
-  pub filled-refused : {r : Refusal} → a ≡ write_refused r → (after ≡ before) × (refusal_line r ≡ answered o t)
-  filled-refused {r} d = go o refl (sym (ap written_said d) ∙ w.answer) w.room
+  pub filled-refused : {q : Refused} → a ≡ Err q → (after ≡ before) × (refusal_line (told_as q) ≡ answered o t)
+  filled-refused {q} d = go o refl (sym (ap written_said d) ∙ w.answer) w.room
     where
-      go : (x : Option Refusal) → o ≡ x → (some r, 0) ≡ written_verdict x t → after ≡ written_room x t before → (after ≡ before) × (refusal_line r ≡ answered o t)
-      go none e p g = absurd (some-ne-none r (ap refusal_in p))
-      go (some q) e p g = (g, refused _ (e ∙ sym (ap refusal_in p)))
+      go : (x : Option Refusal) → o ≡ x → (some (told_as q), 0) ≡ written_verdict x t → after ≡ written_room x t before → (after ≡ before) × (refusal_line (told_as q) ≡ answered o t)
+      go none e p g = absurd (some-ne-none (told_as q) (ap refusal_in p))
+      go (some r) e p g = (g, refused _ (e ∙ sym (ap refusal_in p)))
 
 -- the same text over a room that is the same
 pub wrote-from : {t u before same after : List ℕ} {at r : ℕ} → (same ≡ before) × (t ≡ u) → Wrote t same after at r → Wrote u before after at r
@@ -96,17 +95,17 @@ by-request s e w = (rw e w, counted w)
 
 module _ (s : List ℕ) where
   -- ---- the reading
-  module _ {a : Reading} (e : said_of a ≡ refusal_of most_nodes s) where
-    pub read-accepted : a ≡ Accepted → ascii "accepted\n" ≡ answer_text most_nodes Read s
+  module _ {a : Result Unit Refused} (e : said_of a ≡ refusal_of most_nodes s) where
+    pub read-accepted : a ≡ Ok tt → ascii "accepted\n" ≡ answer_text most_nodes Read s
     unfolding answer_text
     read-accepted d = told (sym e ∙ ap said_of d)
 
-    pub read-refused : {r : Refusal} → a ≡ Refused r → refusal_line r ≡ answer_text most_nodes Read s
+    pub read-refused : {q : Refused} → a ≡ Err q → refusal_line (told_as q) ≡ answer_text most_nodes Read s
     unfolding answer_text
     read-refused d = refused _ (sym e ∙ ap said_of d)
 
   -- ---- the script: `enough_room` bytes are always enough
-  module _ (models : Bool) {before after : List ℕ} (h : enough_room ≤ length before) {a : Written} (w : Writes most_nodes (sixteen models) s before a after) where
+  module _ (models : Bool) {before after : List ℕ} (h : enough_room ≤ length before) {a : Result ℕ Refused} (w : Writes most_nodes (sixteen models) s before a after) where
     script-refusal : script_refusal most_nodes (sixteen models) s (length before) ≡ refusal_of most_nodes s
     unfolding script_refusal
     script-refusal = go (refusal_of most_nodes s) refl
@@ -118,11 +117,11 @@ module _ (s : List ℕ) where
     script-fills : Fills (refusal_of most_nodes s) (script (sixteen models) (rule_in s)) before a after
     script-fills = record { answer = w.answer ∙ rw script-refusal; room = w.room ∙ rw script-refusal }
 
-    pub script-written : {n : ℕ} → a ≡ written n → Wrote (script_answer most_nodes (sixteen models) s) before after 0 n
+    pub script-written : {n : ℕ} → a ≡ Ok n → Wrote (script_answer most_nodes (sixteen models) s) before after 0 n
     unfolding script_answer
     script-written d = filled-written script-fills d
 
-    pub script-refused : {r : Refusal} → a ≡ write_refused r → (after ≡ before) × (refusal_line r ≡ script_answer most_nodes (sixteen models) s)
+    pub script-refused : {q : Refused} → a ≡ Err q → (after ≡ before) × (refusal_line (told_as q) ≡ script_answer most_nodes (sixteen models) s)
     unfolding script_answer
     script-refused d = filled-refused script-fills d
 
@@ -139,7 +138,7 @@ module _ (s : List ℕ) where
   case-length : {c : List ℤ} → first_failure (rule_in s) ≡ some c → length c ≡ variable_count s
   case-length q = (first-fails (rule_in s) q).0.all ∙ variable-total s
 
-  module _ {after : List ℤ} {a : Checked} (w : Checks most_nodes s (replicate most_variables (pos 0)) a after) where
+  module _ {after : List ℤ} {a : Result Verdict Refused} (w : Checks most_nodes s (replicate most_variables (pos 0)) a after) where
     check-refusal : check_refusal most_nodes s most_variables ≡ try_refusal most_nodes s
     unfolding check_refusal
     check-refusal = go (try_refusal most_nodes s) refl
@@ -149,21 +148,21 @@ module _ (s : List ℕ) where
         go none e = passes (variable_count s) most_variables 9 (variable_count s) e (tried-inside s e).1 ∙ sym e
 
     -- what the check says, by the refusal and the first failing case
-    said : {t : Checked} → a ≡ t → checked_said t ≡ verdict (try_refusal most_nodes s) (first_failure (rule_in s))
+    said : {t : Result Verdict Refused} → a ≡ t → checked_said t ≡ verdict (try_refusal most_nodes s) (first_failure (rule_in s))
     said d = sym (ap checked_said d) ∙ w.answer ∙ rw check-refusal
 
     row_is : after ≡ room_after (try_refusal most_nodes s) (first_failure (rule_in s)) (replicate most_variables (pos 0))
     row_is = w.room ∙ rw check-refusal
 
-    pub check-refused : {r : Refusal} → a ≡ check_refused r → refusal_line r ≡ answer_text most_nodes Check s
+    pub check-refused : {q : Refused} → a ≡ Err q → refusal_line (told_as q) ≡ answer_text most_nodes Check s
     unfolding answer_text
-    check-refused {r} d = go (try_refusal most_nodes s) (first_failure (rule_in s)) refl (said d)
+    check-refused {q} d = go (try_refusal most_nodes s) (first_failure (rule_in s)) refl (said d)
       where
-        go : (o : Option Refusal) (f : Option (List ℤ)) → try_refusal most_nodes s ≡ o → (some r, false) ≡ verdict o f → refusal_line r ≡ answered (try_refusal most_nodes s) (check_line (rule_in s) (first_failure (rule_in s)))
-        go none f e p = absurd (some-ne-none r (ap refusal_in p))
-        go (some q) f e p = refused _ (e ∙ sym (ap refusal_in p))
+        go : (o : Option Refusal) (f : Option (List ℤ)) → try_refusal most_nodes s ≡ o → (some (told_as q), false) ≡ verdict o f → refusal_line (told_as q) ≡ answered (try_refusal most_nodes s) (check_line (rule_in s) (first_failure (rule_in s)))
+        go none f e p = absurd (some-ne-none (told_as q) (ap refusal_in p))
+        go (some x) f e p = refused _ (e ∙ sym (ap refusal_in p))
 
-    pub check-holds : a ≡ Holds → ascii "holds\n" ≡ answer_text most_nodes Check s
+    pub check-holds : a ≡ Ok Holds → ascii "holds\n" ≡ answer_text most_nodes Check s
     unfolding answer_text check_line
     check-holds d = go (try_refusal most_nodes s) (first_failure (rule_in s)) refl refl (said d)
       where
@@ -178,7 +177,7 @@ module _ (s : List ℕ) where
       tried : try_refusal most_nodes s ≡ none
       first : first_failure (rule_in s) ≡ some case
 
-    found : a ≡ Fails → Found
+    found : a ≡ Ok Fails → Found
     found d = go (try_refusal most_nodes s) (first_failure (rule_in s)) refl refl (said d)
       where
         go : (o : Option Refusal) (f : Option (List ℤ)) → try_refusal most_nodes s ≡ o → first_failure (rule_in s) ≡ f → (none, true) ≡ verdict o f → Found
@@ -186,7 +185,7 @@ module _ (s : List ℕ) where
         go none (some c) e q p = record { case = c; tried = e; first = q }
         go (some r) f e q p = absurd (none-ne-some r (ap refusal_in p))
 
-    module _ (d : a ≡ Fails) where
+    module _ (d : a ≡ Ok Fails) where
       case-is : take (variable_count s) after ≡ (found d).case
       case-is =
           let k = found d in
@@ -209,18 +208,15 @@ module _ (s : List ℕ) where
           ap (λ (l : List ℕ). ascii "fails" ++ l ++ ascii "\n") (name_values-are s after case-is (case-length k.first)) ∙ ap (check_line (rule_in s)) (sym k.first) ∙ told k.tried
 
   -- ---- the tally
-  module _ {t : Tallied} (w : Tallies most_nodes s t) where
-    tallied : t.reading ≡ Accepted → try_refusal most_nodes s ≡ none
-    tallied d = sym w.answer ∙ ap said_of d
-
-    pub tally-accepted : t.reading ≡ Accepted → numbers_line (ascii "held ") t.held (ascii " failed ") t.failed ≡ answer_text most_nodes Tally s
+  module _ {a : Result Tallied Refused} (w : Tallies most_nodes s a) where
+    pub tally-accepted : {t : Tallied} → a ≡ Ok t → numbers_line (ascii "held ") t.held (ascii " failed ") t.failed ≡ answer_text most_nodes Tally s
     unfolding answer_text
-    tally-accepted d =
-        let e = tallied d in
-        let h : t.held ≡ held (rule_in s) = w.held-count ∙ rw e in
-        let f : t.failed ≡ failed (rule_in s) = w.failed-count ∙ rw e in
+    tally-accepted {t} d =
+        let e : try_refusal most_nodes s ≡ none = sym w.answer ∙ ap tallied_said d in
+        let h : t.held ≡ held (rule_in s) = sym (ap held_said d) ∙ w.held-count ∙ rw e in
+        let f : t.failed ≡ failed (rule_in s) = sym (ap failed_said d) ∙ w.failed-count ∙ rw e in
         rw (h, f) (told e)
 
-    pub tally-refused : {r : Refusal} → t.reading ≡ Refused r → refusal_line r ≡ answer_text most_nodes Tally s
+    pub tally-refused : {q : Refused} → a ≡ Err q → refusal_line (told_as q) ≡ answer_text most_nodes Tally s
     unfolding answer_text
-    tally-refused d = refused _ (sym w.answer ∙ ap said_of d)
+    tally-refused d = refused _ (sym w.answer ∙ ap tallied_said d)

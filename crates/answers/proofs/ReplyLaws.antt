@@ -6,6 +6,9 @@ use native.Mathlib.Omega.{arith}
 use lib.IntN.{ℤ, pos}
 use lib.ListN.{length, take, drop}
 use lib.Seq.{take_at, get_or-take}
+use Rattle.std.specs.Prelude.{Result, Ok, Err}
+use Rattle.refusals.specs.declared.Refused.{Refused}
+use Rattle.refusals.specs.Causes.{refusal_of as told_as}
 use Rattle.io.specs.Counts.{IsPrefixLen}
 use Rattle.lists.specs.Ascii.{ascii}
 use Rattle.refusals.specs.declared.Refusal.{Refusal}
@@ -18,7 +21,7 @@ use Rattle.odometer.proofs.Domains.{case-narrow}
 use Rattle.replies.specs.Says.{SpellsCase}
 use Rattle.replies.proofs.Unique.{one-case}
 use Rattle.trial.specs.declared.Replied.{Replied}
-use Rattle.trial.specs.declared.Replied.TheVariants.{Unsat, Fails, Refused}
+use Rattle.trial.specs.declared.Replied.TheVariants.{Unsat, Fails}
 use Rattle.trial.specs.Replies.{Told, Replies, CaseRoom, RepliesInto}
 use Rattle.trial.proofs.GivenLaws.{fails-accepted}
 use Rattle.room.specs.Room.{Wrote}
@@ -30,16 +33,16 @@ use Rattle.answers.specs.Answers.{failing}
 use Rattle.answers.specs.Replies.{reply_line, WroteReply}
 use Rattle.answers.proofs.AnswerLaws.{counted}
 
-module _ (s reply : List ℕ) {before after : List ℤ} {a : Replied} (w : RepliesInto most_nodes s reply before a after) where
+module _ (s reply : List ℕ) {before after : List ℤ} {a : Result Replied Refused} (w : RepliesInto most_nodes s reply before a after) where
   -- ---- the failing case, and the row that it is left in
-  module _ (d : a ≡ Fails) where
+  module _ (d : a ≡ Ok Fails) where
     told : (c : List ℤ) × SpellsCase (variable_count s) reply c × Failing (rule_in s) c
     told = subst (Told s reply) d w.answer.told
 
     left : (c : List ℤ) × SpellsCase (variable_count s) reply c × (after ≡ c ++ drop (variable_count s) before)
-    left = subst (λ (r : Replied). CaseRoom s reply before r after) d w.room
+    left = subst (λ (r : Result Replied Refused). CaseRoom s reply before r after) d w.room
 
-    believed : Replies most_nodes s reply Fails
+    believed : Replies most_nodes s reply (Ok Fails)
     believed = subst (Replies most_nodes s reply) d w.answer
 
     case-length : length told.0 ≡ variable_count s
@@ -58,11 +61,11 @@ module _ (s reply : List ℕ) {before after : List ℤ} {a : Replied} (w : Repli
 
   -- ---- the line that is written
   module _ {x y : List ℕ} {n : ℕ} where
-    pub reply-fails : a ≡ Fails → Wrote (fails_line s after) x y 0 n → WroteReply most_nodes s reply x y n × IsPrefixLen n y
+    pub reply-fails : a ≡ Ok Fails → Wrote (fails_line s after) x y 0 n → WroteReply most_nodes s reply x y n × IsPrefixLen n y
     unfolding failing fails_line
     reply-fails d g = (
       record {
-        answer = Fails;
+        answer = Ok Fails;
         replies = believed d;
         case = (told d).0;
         spelled = λ e. (told d).1;
@@ -72,11 +75,11 @@ module _ (s reply : List ℕ) {before after : List ℤ} {a : Replied} (w : Repli
     )
 
     -- what spells no case
-    reply-other : {b : Replied} → (b ≡ Fails → ⊥) → a ≡ b → Wrote (reply_line (rule_in s) [] b) x y 0 n → WroteReply most_nodes s reply x y n × IsPrefixLen n y
+    reply-other : {b : Result Replied Refused} → (b ≡ Ok Fails → ⊥) → a ≡ b → Wrote (reply_line (rule_in s) [] b) x y 0 n → WroteReply most_nodes s reply x y n × IsPrefixLen n y
     reply-other {b} f d g = (record { answer = b; replies = subst (Replies most_nodes s reply) d w.answer; case = []; spelled = λ e. absurd (f e); wrote = g }, counted g)
 
-    pub reply-unsat : a ≡ Unsat → Wrote (ascii "unsat claimed\n") x y 0 n → WroteReply most_nodes s reply x y n × IsPrefixLen n y
+    pub reply-unsat : a ≡ Ok Unsat → Wrote (ascii "unsat claimed\n") x y 0 n → WroteReply most_nodes s reply x y n × IsPrefixLen n y
     reply-unsat = reply-other (λ e. let z : ◌≡◌ {A = ℕ} 0 1 = cc in omega arith)
 
-    pub reply-refused : {r : Refusal} → a ≡ Refused r → Wrote (refusal_line r) x y 0 n → WroteReply most_nodes s reply x y n × IsPrefixLen n y
+    pub reply-refused : {q : Refused} → a ≡ Err q → Wrote (refusal_line (told_as q)) x y 0 n → WroteReply most_nodes s reply x y n × IsPrefixLen n y
     reply-refused = reply-other (λ e. let z : ◌≡◌ {A = ℕ} 0 1 = cc in omega arith)

@@ -3,12 +3,15 @@ use Prim.Native.Nat.{ℕ}
 use mathlib.Core.Path.{◌≡◌, refl, sym, ap, ◌∙◌}
 use mathlib.Core.List.{List}
 use lib.IntN.{ℤ}
+use Rattle.std.specs.Prelude.{Result, Ok, Err}
+use Rattle.refusals.specs.declared.Refused.{Refused}
+use Rattle.refusals.specs.Causes.{refusal_of as told_as}
 use Rattle.layout.specs.Limits.{most_nodes}
 use Rattle.layout.specs.Parts.{variable_count, rule_in}
 use Rattle.replies.specs.Says.{SpellsCase}
 use Rattle.replies.proofs.Unique.{one-case}
 use Rattle.trial.specs.declared.Replied.{Replied}
-use Rattle.trial.specs.declared.Replied.TheVariants.{Unsat, Fails, Refused}
+use Rattle.trial.specs.declared.Replied.TheVariants.{Unsat, Fails}
 use Rattle.trial.proofs.Unique.{reply-once}
 use Rattle.room.specs.Room.{Wrote}
 use Rattle.room.proofs.RoomLaws.{wrote_as}
@@ -20,10 +23,10 @@ pub answer-once : (q : Request) (s before : List ℕ) {x y : List ℕ} {r t : �
 answer-once q s before w v = (w.place ∙ sym v.place, w.room ∙ sym v.room)
 
 -- one line fits what a reply comes to
-same_line : (s reply : List ℕ) (a : Replied) {c d : List ℤ} → (a ≡ Fails → SpellsCase (variable_count s) reply c) → (a ≡ Fails → SpellsCase (variable_count s) reply d) → reply_line (rule_in s) c a ≡ reply_line (rule_in s) d a
-same_line s reply Unsat p q = refl
-same_line s reply Fails p q = ap (failing (rule_in s)) (one-case (p refl) (q refl))
-same_line s reply (Refused e) p q = refl
+same_line : (s reply : List ℕ) (a : Result Replied Refused) {c d : List ℤ} → (a ≡ Ok Fails → SpellsCase (variable_count s) reply c) → (a ≡ Ok Fails → SpellsCase (variable_count s) reply d) → reply_line (rule_in s) c a ≡ reply_line (rule_in s) d a
+same_line s reply (Ok Unsat) p q = refl
+same_line s reply (Ok Fails) p q = ap (failing (rule_in s)) (one-case (p refl) (q refl))
+same_line s reply (Err e) p q = refl
 
 pub reply-answer-once : (s reply before : List ℕ) {x y : List ℕ} {r t : ℕ} → WroteReply most_nodes s reply before x r → WroteReply most_nodes s reply before y t → (r ≡ t) × (x ≡ y)
 reply-answer-once s reply before w v =

@@ -11,15 +11,13 @@ ghost use Rattle.answers.specs.Answers.{script_answer, answer_text};
 ghost use Rattle.answers.specs.Replies.{WroteReply};
 ghost use Rattle.answers.specs.declared.Request.TheVariants.{Read, Check, Tally};
 
-use cases::Checked;
+use cases::Verdict;
 use layout::MOST_VARIABLES;
-use refusals::Reading;
-use room::Written;
 use trial::Replied;
 use wording::ScriptForm;
 
 // What is asked of a sheet.
-#[derive(Clone, Copy)]
+#[derive(Clone, Copy, Debug, PartialEq, Eq)]
 pub enum Request {
     Read,
     Script,
@@ -34,8 +32,8 @@ fn read_answer(sheet: &[u8], room: &mut [u8]) -> usize
     ensures { Wrote (answer_text most_nodes Read sheet.now) room.old room.new 0 result }
 {
     match reading::read(sheet) {
-        Reading::Accepted => room::put(room, 0, b"accepted\n"),
-        Reading::Refused(refusal) => phrases::refused_line(room, refusal),
+        Ok(()) => room::put(room, 0, b"accepted\n"),
+        Err(refused) => phrases::refused_line(room, refused.into()),
     }
 }
 
@@ -45,8 +43,8 @@ fn script_answer(sheet: &[u8], form: ScriptForm, room: &mut [u8]) -> usize
     ensures { Wrote (script_answer most_nodes (form_of form) sheet.now) room.old room.new 0 result }
 {
     match writer::write_script(sheet, form, room) {
-        Written::Done(size) => size,
-        Written::Refused(refusal) => phrases::refused_line(room, refusal),
+        Ok(size) => size,
+        Err(refused) => phrases::refused_line(room, refused.into()),
     }
 }
 
@@ -57,9 +55,9 @@ fn check_answer(sheet: &[u8], room: &mut [u8]) -> usize
 {
     let mut row = [0i16; MOST_VARIABLES];
     match cases::check(sheet, &mut row) {
-        Checked::Holds => room::put(room, 0, b"holds\n"),
-        Checked::Fails => phrases::fails_line(sheet, &row, room),
-        Checked::Refused(refusal) => phrases::refused_line(room, refusal),
+        Ok(Verdict::Holds) => room::put(room, 0, b"holds\n"),
+        Ok(Verdict::Fails) => phrases::fails_line(sheet, &row, room),
+        Err(refused) => phrases::refused_line(room, refused.into()),
     }
 }
 
@@ -68,19 +66,17 @@ fn tally_answer(sheet: &[u8], room: &mut [u8]) -> usize
     requires { enough_room ≤ length room.old }
     ensures { Wrote (answer_text most_nodes Tally sheet.now) room.old room.new 0 result }
 {
-    let tally = cases::tally(sheet);
-    let reading = tally.reading;
-    match reading {
-        Reading::Accepted => {
+    match cases::tally(sheet) {
+        Ok(tallied) => {
             phrases::numbers_line(
                 room,
                 b"held ",
-                tally.held as u64,
+                tallied.held as u64,
                 b" failed ",
-                tally.failed as u64,
+                tallied.failed as u64,
             )
         }
-        Reading::Refused(refusal) => phrases::refused_line(room, refusal),
+        Err(refused) => phrases::refused_line(room, refused.into()),
     }
 }
 
@@ -107,8 +103,8 @@ pub fn reply_answer(sheet: &[u8], reply: &[u8], room: &mut [u8]) -> usize
 {
     let mut row = [0i16; MOST_VARIABLES];
     match trial::reply_into(sheet, reply, &mut row) {
-        Replied::Unsat => room::put(room, 0, b"unsat claimed\n"),
-        Replied::Fails => phrases::fails_line(sheet, &row, room),
-        Replied::Refused(refusal) => phrases::refused_line(room, refusal),
+        Ok(Replied::Unsat) => room::put(room, 0, b"unsat claimed\n"),
+        Ok(Replied::Fails) => phrases::fails_line(sheet, &row, room),
+        Err(refused) => phrases::refused_line(room, refused.into()),
     }
 }

@@ -2,10 +2,10 @@
 use Rattle.answers.proofs.AnswerLaws.{script-written, script-refused, wrote-from}
 use Rattle.answers.proofs.script_answer.Goals as goal
 
-pub returns-in-Done : goal.returns-in-Done
-returns-in-Done c =
-    script-written _ _ c.requires c.write_script.ensures c.in-Done.is
+pub returns-in-Ok : goal.returns-in-Ok
+returns-in-Ok c =
+    script-written _ _ c.requires c.write_script.ensures c.in-Ok.is
 
-pub returns-in-Refused : goal.returns-in-Refused
-returns-in-Refused c =
-    wrote-from (script-refused _ _ c.requires c.write_script.ensures c.in-Refused.is) c.refused_line.ensures
+pub returns-in-Err : goal.returns-in-Err
+returns-in-Err c =
+    wrote-from (script-refused _ _ c.requires c.write_script.ensures c.in-Err.is) (rw c.into.ensures at c.refused_line.ensures)
