@@ -7,18 +7,20 @@ use mathlib.Core.Option.{Option, none, some}
 use native.Mathlib.Omega.{arith}
 use lib.IntN.{ℤ}
 use lib.ListN.{length}
+use Rattle.std.specs.Prelude.{Result, Ok, Err}
+use Rattle.refusals.specs.declared.Refused.{Refused}
+use Rattle.refusals.specs.Causes.{refusal_of as told_as}
 use Rattle.refusals.specs.declared.Refusal.{Refusal}
 use Rattle.meaning.specs.Cases.{first_failure, held, failed}
 use Rattle.meaning.proofs.Counts.{case-count, held-failed}
 use Rattle.layout.specs.Limits.{most_nodes}
 use Rattle.layout.specs.Parts.{rule_in}
-use Rattle.refusals.specs.declared.Reading.TheVariants.{Accepted, Refused as Turned}
 use Rattle.refusals.specs.Said.{said_of}
-use Rattle.cases.specs.declared.Checked.{Checked}
-use Rattle.cases.specs.declared.Checked.TheVariants.{Refused}
+use Rattle.cases.specs.declared.Verdict.{Verdict}
+use Rattle.cases.specs.declared.Verdict.TheVariants.{Holds, Fails}
 use Rattle.cases.specs.declared.Tallied.{Tallied}
 use Rattle.cases.specs.Checks.{try_refusal, check_refusal, checked_said, is_some, verdict, Checks}
-use Rattle.cases.specs.Tallies.{unless_refused, Tallies}
+use Rattle.cases.specs.Tallies.{unless_refused, tallied_said, held_said, failed_said, Tallies}
 use Rattle.cases.proofs.Exact.{tally-small, check-small}
 use Rattle.cases.proofs.TryLaws.{few-cases}
 use Rattle.capi.specs.Codes.{refusal_code, code_of, code_said, fails_code, CheckCodes, counts_code, tally_code}
@@ -38,19 +40,19 @@ fails-small false = omega arith
 
 module _ (s : List ℕ) where
   -- ---- the check, by its answer
-  module _ {before after : List ℤ} {a : Checked} (c : Checks most_nodes s before a after) where
+  module _ {before after : List ℤ} {a : Result Verdict Refused} (c : Checks most_nodes s before a after) where
     answer-is : {v : Option Refusal × Bool} → checked_said a ≡ v → verdict (check_refusal most_nodes s (length before)) (first_failure (rule_in s)) ≡ v
     answer-is e = sym c.answer ∙ e
 
     pub checked-code : {n : ℕ} {v : Option Refusal × Bool} → checked_said a ≡ v → n ≡ verdict_code v → CheckCodes most_nodes s before n after
     checked-code e d = record { code = d ∙ ap verdict_code (sym (answer-is e)) ∙ verdict-code (check_refusal most_nodes s (length before)) (first_failure (rule_in s)); room = c.room }
 
-    pub checked-place : {r : Refusal} → a ≡ Refused r → r.place < most_nodes
-    checked-place {r} d = go (check_refusal most_nodes s (length before)) refl (answer-is (ap checked_said d))
+    pub checked-place : {q : Refused} → a ≡ Err q → q.place < most_nodes
+    checked-place {q} d = go (check_refusal most_nodes s (length before)) refl (answer-is (ap checked_said d))
       where
-        go : (o : Option Refusal) → check_refusal most_nodes s (length before) ≡ o → verdict o (first_failure (rule_in s)) ≡ (some r, false) → r.place < most_nodes
-        go none q w = absurd (let z : ◌≡◌ {A = ℕ} 0 1 = cc (ap (λ (p : Option Refusal × Bool). p.0) w) in omega arith)
-        go (some t) q w = (check-small s (length before) (q ∙ ap (λ (p : Option Refusal × Bool). p.0) w)).low-place
+        go : (o : Option Refusal) → check_refusal most_nodes s (length before) ≡ o → verdict o (first_failure (rule_in s)) ≡ (some (told_as q), false) → q.place < most_nodes
+        go none e w = absurd (let z : ◌≡◌ {A = ℕ} 0 1 = cc (ap (λ (p : Option Refusal × Bool). p.0) w) in omega arith)
+        go (some t) e w = (check-small s (length before) (e ∙ ap (λ (p : Option Refusal × Bool). p.0) w)).low-place
 
   -- the refusal, or 0 where the rule holds and 1 where it fails
   pub check-tells : {before after : List ℤ} {r : ℕ} → CheckCodes most_nodes s before r after → code_said r ≡ (check_refusal most_nodes s (length before), unless_refused (check_refusal most_nodes s (length before)) (fails_code (is_some (first_failure (rule_in s)))))
@@ -60,21 +62,18 @@ module _ (s : List ℕ) where
       small r e = let b = check-small s (length before) e in (b.some_number, omega (arith, b.low-place))
 
   -- ---- the tally
-  module _ {t : Tallied} (c : Tallies most_nodes s t) where
-    pub tally-place : {r : Refusal} → t.reading ≡ Turned r → r.place < most_nodes
-    tally-place d = (tally-small s (sym c.answer ∙ ap said_of d)).low-place
+  module _ {a : Result Tallied Refused} (c : Tallies most_nodes s a) where
+    pub tally-place : {q : Refused} → a ≡ Err q → q.place < most_nodes
+    tally-place d = (tally-small s (sym c.answer ∙ ap tallied_said d)).low-place
 
-    pub tally-refused : {r : Refusal} → t.reading ≡ Turned r → refusal_code r ≡ tally_code most_nodes s
-    tally-refused d = ap (λ (o : Option Refusal). code_of o (counts_code (held (rule_in s)) (failed (rule_in s)))) (sym (ap said_of d) ∙ c.answer)
+    pub tally-refused : {q : Refused} → a ≡ Err q → refusal_code (told_as q) ≡ tally_code most_nodes s
+    tally-refused d = ap (λ (o : Option Refusal). code_of o (counts_code (held (rule_in s)) (failed (rule_in s)))) (sym (ap tallied_said d) ∙ c.answer)
 
-    tried : t.reading ≡ Accepted → try_refusal most_nodes s ≡ none
-    tried d = sym c.answer ∙ ap said_of d
-
-    pub tally-counted : t.reading ≡ Accepted → t.held * 2 ^ 24 + t.failed ≡ tally_code most_nodes s
-    tally-counted d =
-        let e = tried d in
-        let h : t.held ≡ held (rule_in s) = c.held-count ∙ ap (λ (o : Option Refusal). unless_refused o (held (rule_in s))) e in
-        let f : t.failed ≡ failed (rule_in s) = c.failed-count ∙ ap (λ (o : Option Refusal). unless_refused o (failed (rule_in s))) e in
+    pub tally-counted : {t : Tallied} → a ≡ Ok t → t.held * 2 ^ 24 + t.failed ≡ tally_code most_nodes s
+    tally-counted {t} d =
+        let e : try_refusal most_nodes s ≡ none = sym c.answer ∙ ap tallied_said d in
+        let h : t.held ≡ held (rule_in s) = sym (ap held_said d) ∙ c.held-count ∙ ap (λ (o : Option Refusal). unless_refused o (held (rule_in s))) e in
+        let f : t.failed ≡ failed (rule_in s) = sym (ap failed_said d) ∙ c.failed-count ∙ ap (λ (o : Option Refusal). unless_refused o (failed (rule_in s))) e in
         ap₂ counts_code h f ∙ ap (λ (o : Option Refusal). code_of o (counts_code (held (rule_in s)) (failed (rule_in s)))) (sym e)
 
   -- both counts are told by quotient and rest, and are below 2^24

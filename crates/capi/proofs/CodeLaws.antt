@@ -8,13 +8,14 @@ use native.Mathlib.Omega.{arith}
 use borrow.Author.Tests.{lt-ltb, le-ltb}
 use denote.Ref.{Bor}
 use lib.ListN.{length}
+use Rattle.std.specs.Prelude.{Result, Ok, Err}
+use Rattle.refusals.specs.declared.Refused.{Refused}
+use Rattle.refusals.specs.Causes.{refusal_of as told_as}
 use Rattle.lists.proofs.Decided.{denied, decided}
 use Rattle.lists.proofs.PartLaws.{part-size}
 use Rattle.refusals.specs.declared.Refusal.{Refusal}
 use Rattle.layout.specs.Limits.{block_bytes, name_start, most_nodes, variable_place}
 use Rattle.layout.specs.Parts.{variable_count, name_size}
-use Rattle.refusals.specs.declared.Reading.{Reading}
-use Rattle.refusals.specs.declared.Reading.TheVariants.{Accepted, Refused}
 use Rattle.refusals.specs.Said.{said_of}
 use Rattle.blocks.specs.Block.{BlockGiven, BlockPart}
 use Rattle.blocks.proofs.BlockLaws.{given-decided}
@@ -54,14 +55,14 @@ code-tells (some r) n refused answered =
     ap₂ said_by q m ∙ said-refused r.number r.place h.0
 
 -- ---- read
-module _ (s : List ℕ) {a : Reading} (e : said_of a ≡ refusal_of most_nodes s) where
-  pub accepted-code : a ≡ Accepted → 0 ≡ read_code most_nodes s
+module _ (s : List ℕ) {a : Result Unit Refused} (e : said_of a ≡ refusal_of most_nodes s) where
+  pub accepted-code : a ≡ Ok tt → 0 ≡ read_code most_nodes s
   accepted-code d = ap (λ (o : Option Refusal). code_of o 0) (sym (ap said_of d) ∙ e)
 
-  pub refused-code : {r : Refusal} → a ≡ Refused r → refusal_code r ≡ read_code most_nodes s
+  pub refused-code : {q : Refused} → a ≡ Err q → refusal_code (told_as q) ≡ read_code most_nodes s
   refused-code d = ap (λ (o : Option Refusal). code_of o 0) (sym (ap said_of d) ∙ e)
 
-  pub place-small : {r : Refusal} → a ≡ Refused r → r.place < most_nodes
+  pub place-small : {q : Refused} → a ≡ Err q → q.place < most_nodes
   place-small d = (refusal-small s (sym e ∙ ap said_of d)).low-place
 
 nothing : (o : Option Refusal) → unless_refused o 0 ≡ 0

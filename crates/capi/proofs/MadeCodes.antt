@@ -8,6 +8,9 @@ use native.Mathlib.Omega.{arith}
 use borrow.Author.Tests.{le-leb, leb-true}
 use lib.Dec.{leb}
 use lib.ListN.{length}
+use Rattle.std.specs.Prelude.{Result, Ok, Err}
+use Rattle.refusals.specs.declared.Refused.{Refused}
+use Rattle.refusals.specs.Causes.{refusal_of as told_as}
 use Rattle.lists.proofs.TestLaws.{both, and}
 use Rattle.lists.proofs.FirstLaws.{neither, otherwise-none}
 use Rattle.refusals.specs.declared.Refusal.{Refusal}
@@ -20,8 +23,6 @@ use Rattle.layout.specs.Parts.{node_count, variable_count, goal_at}
 use Rattle.reading.specs.Rows.{Row1, Row2, Row3, Row4, Row5, Row6, Row7, Row8, GoalSubtree, GoalType, sheet_rows}
 use Rattle.reading.specs.Cascade.{refusal_of}
 use Rattle.grammar.specs.Begins.{Leaves}
-use Rattle.room.specs.declared.Written.{Written}
-use Rattle.room.specs.declared.Written.TheVariants.{Done, Refused}
 use Rattle.room.specs.Written.{written_said, written_verdict}
 use Rattle.texts.specs.Expressions.{records_of, Draft, draft_sheet}
 use Rattle.texts.specs.Texts.{Says, Text}
@@ -30,7 +31,7 @@ use Rattle.maker.specs.Rows as made
 use Rattle.maker.specs.Rows.{draft_rows}
 use Rattle.maker.specs.Makes.{draft_refusal, Makes}
 use Rattle.maker.proofs.Exact.{draft-exactly, text-or-leaves}
-use Rattle.capi.specs.Codes.{code_said, tellable, written_code, MakeCodes}
+use Rattle.capi.specs.Codes.{told_of, code_said, tellable, written_code, MakeCodes}
 use Rattle.capi.proofs.CodeLaws.{tellable-small, code-tells}
 
 -- ---- a draft passes where it keeps the limits, its sheet is accepted, and the room is large enough
@@ -96,29 +97,29 @@ draft-short {text} {d} h few most =
     omega (arith, f.size, f.most)
 
 -- ---- what the code tells: the refusal with its place, as far as 48 bits hold it; or the bytes written
-abbrev pub written_told : Written → Option Refusal × ℕ
-written_told (Done n) = (none, n)
-written_told (Refused r) = (some (record { number = r.number; place = tellable r.place }), 0)
+abbrev pub written_told : Result ℕ Refused → Option Refusal × ℕ
+written_told (Ok n) = (none, n)
+written_told (Err e) = (some (told_of e), 0)
 
-abbrev Tellable : Written → Type 0
-Tellable (Done n) = n < 2 ^ 48
-Tellable (Refused r) = 1 ≤ r.number
+abbrev Tellable : Result ℕ Refused → Type 0
+Tellable (Ok n) = n < 2 ^ 48
+Tellable (Err e) = 1 ≤ (told_as e).number
 
-tells : (a : Written) → Tellable a → code_said (written_code a) ≡ written_told a
-tells (Done n) l = code-tells none n (λ r e. absurd (let z : ◌≡◌ {A = ℕ} 0 1 = cc in omega arith)) (λ e. l)
-tells (Refused q) l =
-    code-tells (some (record { number = q.number; place = tellable q.place })) 0
-    (λ r e. (let d : q.number ≡ r.number = cc in omega arith, let d : tellable q.place ≡ r.place = cc in omega (arith, tellable-small q.place)))
+tells : (a : Result ℕ Refused) → Tellable a → code_said (written_code a) ≡ written_told a
+tells (Ok n) l = code-tells none n (λ r e. absurd (let z : ◌≡◌ {A = ℕ} 0 1 = cc in omega arith)) (λ e. l)
+tells (Err q) l =
+    code-tells (some (told_of q)) 0
+    (λ r e. (let d : (told_as q).number ≡ r.number = cc in omega arith, let d : tellable q.place ≡ r.place = cc in omega (arith, tellable-small q.place)))
     (λ e. absurd (let z : ◌≡◌ {A = ℕ} 0 1 = cc in omega arith))
 
 -- what decides an answer makes it tellable
-decided : (a : Written) (o : Option Refusal) (t : List ℕ) → written_said a ≡ written_verdict o t → (o ≡ none → length t < 2 ^ 48) → ((r : Refusal) → o ≡ some r → 1 ≤ r.number) → Tellable a
-decided (Done n) none t e short numbered = let d : n ≡ length t = ap (λ (x : Option Refusal × ℕ). x.1) e in omega (arith, short refl)
-decided (Done n) (some q) t e short numbered = absurd (let z : ◌≡◌ {A = ℕ} 0 1 = cc (ap (λ (x : Option Refusal × ℕ). x.0) e) in omega arith)
-decided (Refused r) none t e short numbered = absurd (let z : ◌≡◌ {A = ℕ} 0 1 = cc (ap (λ (x : Option Refusal × ℕ). x.0) e) in omega arith)
-decided (Refused r) (some q) t e short numbered = let d : r ≡ q = cc (ap (λ (x : Option Refusal × ℕ). x.0) e) in rw d (numbered q refl)
+decided : (a : Result ℕ Refused) (o : Option Refusal) (t : List ℕ) → written_said a ≡ written_verdict o t → (o ≡ none → length t < 2 ^ 48) → ((r : Refusal) → o ≡ some r → 1 ≤ r.number) → Tellable a
+decided (Ok n) none t e short numbered = let d : n ≡ length t = ap (λ (x : Option Refusal × ℕ). x.1) e in omega (arith, short refl)
+decided (Ok n) (some q) t e short numbered = absurd (let z : ◌≡◌ {A = ℕ} 0 1 = cc (ap (λ (x : Option Refusal × ℕ). x.0) e) in omega arith)
+decided (Err r) none t e short numbered = absurd (let z : ◌≡◌ {A = ℕ} 0 1 = cc (ap (λ (x : Option Refusal × ℕ). x.0) e) in omega arith)
+decided (Err r) (some q) t e short numbered = let d : told_as r ≡ q = cc (ap (λ (x : Option Refusal × ℕ). x.0) e) in rw d (numbered q refl)
 
-makes-tellable : {text before after : List ℕ} {a : Written} → Makes most_nodes text before a after → Tellable a
+makes-tellable : {text before after : List ℕ} {a : Result ℕ Refused} → Makes most_nodes text before a after → Tellable a
 makes-tellable {text} {before} {after} {a} h = go (text-or-leaves text)
   where
     go : Text text ⊎ ((p : ℕ) × Leaves Text text p) → Tellable a
@@ -132,5 +133,5 @@ makes-tellable {text} {before} {after} {a} h = go (text-or-leaves text)
 pub make-tells : {text before after : List ℕ} {r : ℕ} (c : MakeCodes most_nodes text before r after) → code_said r ≡ written_told c.answer
 make-tells c = ap code_said c.code ∙ tells c.answer (makes-tellable c.makes)
 
-pub make-code : {text before after : List ℕ} {a : Written} {n : ℕ} → Makes most_nodes text before a after → n ≡ written_code a → MakeCodes most_nodes text before n after
+pub make-code : {text before after : List ℕ} {a : Result ℕ Refused} {n : ℕ} → Makes most_nodes text before a after → n ≡ written_code a → MakeCodes most_nodes text before n after
 make-code {text} {before} {after} {a} h e = record { answer = a; makes = h; code = e }

@@ -5,6 +5,9 @@ use mathlib.Core.List.{List}
 use mathlib.Core.Option.{none, some}
 use native.Mathlib.Omega.{arith}
 use lib.ListN.{length}
+use Rattle.std.specs.Prelude.{Result, Ok, Err}
+use Rattle.refusals.specs.declared.Refused.{Refused}
+use Rattle.refusals.specs.Causes.{refusal_of as told_as}
 use Rattle.lists.proofs.FirstLaws.{neither}
 use Rattle.refusals.specs.declared.Refusal.{Refusal}
 use Rattle.refusals.specs.Rows.{NoneApplies}
@@ -17,7 +20,6 @@ use Rattle.reading.proofs.Exact.{sheet-exactly}
 use Rattle.reading.proofs.Bounds.{sheet-small}
 use Rattle.reading.proofs.RuleLaws.{accepted-counted}
 use Rattle.cases.specs.Tallies.{unless_refused}
-use Rattle.room.specs.declared.Written.{Written}
 use Rattle.texts.specs.Plain.{text_of}
 use Rattle.printer.specs.Rows.{Row19, Row9, text_rows}
 use Rattle.printer.specs.Prints.{text_refusal, longest_text, Prints}
@@ -56,5 +58,5 @@ text-tells s {before} c = ap code_said c.code ∙ code-tells (text_refusal most_
     answered : text_refusal most_nodes s (length before) ≡ none → length (text_of (rule_in s)) < 2 ^ 48
     answered e = omega (arith, text-short s (neither (refusal_of most_nodes s) _ e).0)
 
-pub text-code : {s before after : List ℕ} {a : Written} {n : ℕ} → Prints most_nodes s before a after → n ≡ written_code a → TextCodes most_nodes s before n after
+pub text-code : {s before after : List ℕ} {a : Result ℕ Refused} {n : ℕ} → Prints most_nodes s before a after → n ≡ written_code a → TextCodes most_nodes s before n after
 text-code {s} {before} {after} {a} h e = record { code = e ∙ code-decided a (text_refusal most_nodes s (length before)) (text_of (rule_in s)) h.answer (λ r d. omega (arith, (text-small s (length before) d).low-place)); room = h.room }

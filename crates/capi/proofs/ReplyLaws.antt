@@ -7,41 +7,41 @@ use native.Mathlib.Decide.{dec_lt}
 use native.Mathlib.Omega.{arith}
 use denote.Ref.{Bor}
 use lib.ListN.{length}
+use Rattle.std.specs.Prelude.{Result, Ok, Err}
+use Rattle.refusals.specs.declared.Refused.{Refused}
+use Rattle.refusals.specs.Causes.{refusal_of as told_as}
 use Rattle.lists.proofs.PartLaws.{part-size}
 use Rattle.refusals.specs.declared.Refusal.{Refusal}
 use Rattle.layout.specs.Limits.{most_nodes}
 use Rattle.replies.specs.Replies.{binary_digits}
 use Rattle.digits.specs.Hashes.{digits_place}
 use Rattle.trial.specs.declared.Replied.{Replied}
-use Rattle.trial.specs.declared.Replied.TheVariants.{Unsat, Fails, Refused}
+use Rattle.trial.specs.declared.Replied.TheVariants.{Unsat, Fails}
 use Rattle.trial.specs.Replies.{Replies}
 use Rattle.trial.specs.Digits.{DigitsGiven, DigitsPart, DigitsSpan}
 use Rattle.trial.proofs.Exact.{reply-near}
 use Rattle.trial.proofs.GivenLaws.{given-decided, digits-few, given_inside}
-use Rattle.capi.specs.Codes.{refusal_code, code_said, tellable, reply_code, ReplyCodes, DigitsCodes}
+use Rattle.capi.specs.Codes.{told_of, refusal_code, code_said, tellable, reply_code, ReplyCodes, DigitsCodes}
 use Rattle.capi.proofs.CodeLaws.{tellable-small, code-tells}
 
 -- ---- reply
-module _ {s reply : List ℕ} {a : Replied} (h : Replies most_nodes s reply a) where
-  pub reply-code : {b : Replied} {n : ℕ} → a ≡ b → n ≡ reply_code b → ReplyCodes most_nodes s reply n
+module _ {s reply : List ℕ} {a : Result Replied Refused} (h : Replies most_nodes s reply a) where
+  pub reply-code : {b : Result Replied Refused} {n : ℕ} → a ≡ b → n ≡ reply_code b → ReplyCodes most_nodes s reply n
   reply-code d e = record { answer = a; replies = h; code = e ∙ ap reply_code (sym d) }
 
-  pub reply-refused-code : {r : Refusal} {p n : ℕ} → a ≡ Refused r → p ≡ tellable r.place → n ≡ refusal_code (record { number = r.number; place = p }) → ReplyCodes most_nodes s reply n
-  reply-refused-code {r} d e f = reply-code d (f ∙ ap (λ (p : ℕ). refusal_code (record { number = r.number; place = p })) e)
-
 -- the refusal with its place, as far as 48 bits hold it; or 0 and 1
-abbrev pub replied_told : Replied → Option Refusal × ℕ
-replied_told Unsat = (none, 0)
-replied_told Fails = (none, 1)
-replied_told (Refused r) = (some (record { number = r.number; place = tellable r.place }), 0)
+abbrev pub replied_told : Result Replied Refused → Option Refusal × ℕ
+replied_told (Ok Unsat) = (none, 0)
+replied_told (Ok Fails) = (none, 1)
+replied_told (Err e) = (some (told_of e), 0)
 
 pub reply-tells : {s reply : List ℕ} {r : ℕ} (c : ReplyCodes most_nodes s reply r) → code_said r ≡ replied_told c.answer
 reply-tells {s} {reply} c = ap code_said c.code ∙ go c.answer c.replies
   where
-    go : (a : Replied) → Replies most_nodes s reply a → code_said (reply_code a) ≡ replied_told a
-    go Unsat h = code-tells none 0 (λ r e. absurd (let z : ◌≡◌ {A = ℕ} 0 1 = cc in omega arith)) (λ e. omega arith)
-    go Fails h = code-tells none 1 (λ r e. absurd (let z : ◌≡◌ {A = ℕ} 0 1 = cc in omega arith)) (λ e. omega arith)
-    go (Refused q) h = code-tells (some (record { number = q.number; place = tellable q.place })) 0 (λ r e. (let d : q.number ≡ r.number = cc in omega (arith, (reply-near h).some_number), let d : tellable q.place ≡ r.place = cc in omega (arith, tellable-small q.place))) (λ e. absurd (let z : ◌≡◌ {A = ℕ} 0 1 = cc in omega arith))
+    go : (a : Result Replied Refused) → Replies most_nodes s reply a → code_said (reply_code a) ≡ replied_told a
+    go (Ok Unsat) h = code-tells none 0 (λ r e. absurd (let z : ◌≡◌ {A = ℕ} 0 1 = cc in omega arith)) (λ e. omega arith)
+    go (Ok Fails) h = code-tells none 1 (λ r e. absurd (let z : ◌≡◌ {A = ℕ} 0 1 = cc in omega arith)) (λ e. omega arith)
+    go (Err q) h = code-tells (some (told_of q)) 0 (λ r e. (let d : (told_as q).number ≡ r.number = cc in omega (arith, (reply-near h).some_number), let d : tellable q.place ≡ r.place = cc in omega (arith, tellable-small q.place))) (λ e. absurd (let z : ◌≡◌ {A = ℕ} 0 1 = cc in omega arith))
 
 -- ---- digits
 pub digits-code-once : {s reply : List ℕ} {i r t : ℕ} → DigitsCodes most_nodes s reply i r → DigitsCodes most_nodes s reply i t → r ≡ t

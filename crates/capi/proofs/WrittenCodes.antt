@@ -6,6 +6,9 @@ use mathlib.Core.List.{List}
 use mathlib.Core.Option.{Option, none, some}
 use native.Mathlib.Omega.{arith}
 use lib.ListN.{length}
+use Rattle.std.specs.Prelude.{Result, Ok, Err}
+use Rattle.refusals.specs.declared.Refused.{Refused}
+use Rattle.refusals.specs.Causes.{refusal_of as told_as}
 use Rattle.refusals.specs.declared.Refusal.{Refusal}
 use Rattle.layout.specs.Parts.{rule_in}
 use Rattle.refusals.proofs.AfterLaws.{passed}
@@ -14,8 +17,6 @@ use Rattle.reading.specs.Cascade.{refusal_of}
 use Rattle.cases.specs.Tallies.{unless_refused}
 use Rattle.wording.specs.Form.{Form, sixteen}
 use Rattle.wording.specs.Script.{script}
-use Rattle.room.specs.declared.Written.{Written}
-use Rattle.room.specs.declared.Written.TheVariants.{Done, Refused}
 use Rattle.room.specs.Written.{written_said, written_verdict}
 use Rattle.writer.specs.Writes.{script_refusal, Writes}
 use Rattle.writer.proofs.ScriptLaws.{script-short}
@@ -24,16 +25,15 @@ use Rattle.capi.specs.Codes.{refusal_code, code_of, code_said, tellable, written
 use Rattle.capi.proofs.CodeLaws.{low-place, code-tells}
 
 -- ---- the code of an answer, and that of what decides it, where 48 bits hold the refusal's place
-pub code-decided : (a : Written) (o : Option Refusal) (t : List ℕ) → written_said a ≡ written_verdict o t → ((r : Refusal) → o ≡ some r → r.place < 2 ^ 48) → written_code a ≡ code_of o (length t)
-code-decided (Done n) none t e small = ap (λ (x : Option Refusal × ℕ). x.1) e
-code-decided (Done n) (some q) t e small = absurd (let z : ◌≡◌ {A = ℕ} 0 1 = cc (ap (λ (x : Option Refusal × ℕ). x.0) e) in omega arith)
-code-decided (Refused r) none t e small = absurd (let z : ◌≡◌ {A = ℕ} 0 1 = cc (ap (λ (x : Option Refusal × ℕ). x.0) e) in omega arith)
-code-decided (Refused r) (some q) t e small =
-    let d : r ≡ q = cc (ap (λ (x : Option Refusal × ℕ). x.0) e) in
-    rw (d, ← (low-place q.place (small q refl)).0)
-
-pub refused-code : {a : Written} {r : Refusal} {p n : ℕ} → a ≡ Refused r → p ≡ tellable r.place → n ≡ refusal_code (record { number = r.number; place = p }) → n ≡ written_code a
-refused-code {a} {r} d e f = f ∙ ap (λ (p : ℕ). refusal_code (record { number = r.number; place = p })) e ∙ ap written_code (sym d)
+pub code-decided : (a : Result ℕ Refused) (o : Option Refusal) (t : List ℕ) → written_said a ≡ written_verdict o t → ((r : Refusal) → o ≡ some r → r.place < 2 ^ 48) → written_code a ≡ code_of o (length t)
+code-decided (Ok n) none t e small = ap (λ (x : Option Refusal × ℕ). x.1) e
+code-decided (Ok n) (some q) t e small = absurd (let z : ◌≡◌ {A = ℕ} 0 1 = cc (ap (λ (x : Option Refusal × ℕ). x.0) e) in omega arith)
+code-decided (Err r) none t e small = absurd (let z : ◌≡◌ {A = ℕ} 0 1 = cc (ap (λ (x : Option Refusal × ℕ). x.0) e) in omega arith)
+code-decided (Err r) (some q) t e small =
+    let d : told_as r ≡ q = cc (ap (λ (x : Option Refusal × ℕ). x.0) e) in
+    let p : r.place ≡ q.place = ap (λ (x : Refusal). x.place) d in
+    let k : (told_as r).number ≡ q.number = ap (λ (x : Refusal). x.number) d in
+    rw (k, p, ← (low-place q.place (small q refl)).0)
 
 -- ---- scripts
 module _ (models : Bool) (s : List ℕ) where
@@ -51,5 +51,5 @@ module _ (models : Bool) (s : List ℕ) where
       answered : script_refusal most_nodes form s (length before) ≡ none → length (script form (rule_in s)) < 2 ^ 48
       answered e = omega (arith, script-short models s (passed (refusal_of most_nodes s) (length (script form (rule_in s))) (length before) 9 (length (script form (rule_in s))) e).0)
 
-  pub script-code : {before after : List ℕ} {a : Written} {n : ℕ} → Writes most_nodes form s before a after → n ≡ written_code a → ScriptCodes most_nodes form s before n after
+  pub script-code : {before after : List ℕ} {a : Result ℕ Refused} {n : ℕ} → Writes most_nodes form s before a after → n ≡ written_code a → ScriptCodes most_nodes form s before n after
   script-code {before} {after} {a} c e = record { code = e ∙ code-decided a (script_refusal most_nodes form s (length before)) (script form (rule_in s)) c.answer (λ r d. omega (arith, (script-small models s (length before) d).low-place)); room = c.room }

@@ -1,5 +1,5 @@
 -- The answers of the C interface as one number each (include/ragwashin.h). `limit` is the most nodes that a sheet may have.
-use Rattle.std.specs.Prelude.{ℕ, zero, suc, ◌+◌, ◌-◌, ◌*◌, ◌/◌, ◌%◌, ◌^◌, ◌<◌, ◌≡◌, Bool, cond, ◌&&◌, List, leb, ltb, ℤ, length}
+use Rattle.std.specs.Prelude.{ℕ, zero, suc, ◌+◌, ◌-◌, ◌*◌, ◌/◌, ◌%◌, ◌^◌, ◌<◌, ◌≡◌, Bool, cond, ◌&&◌, List, leb, ltb, ℤ, length, Result, Ok, Err}
 use Rattle.std.proofs.Math.Option.{Option, none, some}
 use Rattle.refusals.specs.declared.Refusal.{Refusal}
 use Rattle.meaning.specs.Cases.{first_failure, held, failed}
@@ -11,8 +11,8 @@ use Rattle.cases.specs.Checks.{try_refusal, check_refusal, is_some, room_after}
 use Rattle.cases.specs.Tallies.{unless_refused}
 use Rattle.wording.specs.Form.{Form}
 use Rattle.wording.specs.Script.{script}
-use Rattle.room.specs.declared.Written.{Written}
-use Rattle.room.specs.declared.Written.TheVariants.{Done, Refused as Written-as-Refused}
+use Rattle.refusals.specs.declared.Refused.{Refused}
+use Rattle.refusals.specs.Causes.{refusal_of as told_as}
 use Rattle.room.specs.Written.{written_room}
 use Rattle.texts.specs.Plain.{text_of}
 use Rattle.maker.specs.Makes.{Makes}
@@ -20,7 +20,7 @@ use Rattle.printer.specs.Prints.{text_refusal}
 use Rattle.writer.specs.Writes.{script_refusal}
 use Rattle.digits.specs.Hashes.{digits_place, digits_size}
 use Rattle.trial.specs.declared.Replied.{Replied}
-use Rattle.trial.specs.declared.Replied.TheVariants.{Unsat, Fails, Refused}
+use Rattle.trial.specs.declared.Replied.TheVariants.{Unsat, Fails}
 use Rattle.trial.specs.Replies.{Replies}
 use Rattle.trial.specs.Digits.{DigitsGiven}
 
@@ -78,13 +78,16 @@ abbrev pub tellable : ℕ → ℕ
 tellable place = cond (ltb place (2 ^ 48)) place (2 ^ 48 - 1)
 
 -- a reply: 0 where unsat is claimed, 1 where the case fails
-abbrev pub reply_code : Replied → ℕ
-reply_code Unsat = 0
-reply_code Fails = 1
-reply_code (Refused r) = refusal_code (record { number = r.number; place = tellable r.place })
+abbrev pub told_of : Refused → Refusal
+told_of e = record { number = (told_as e).number; place = tellable e.place }
+
+abbrev pub reply_code : Result Replied Refused → ℕ
+reply_code (Ok Unsat) = 0
+reply_code (Ok Fails) = 1
+reply_code (Err e) = refusal_code (told_of e)
 
 pub record ReplyCodes (limit : ℕ) (s reply : List ℕ) (r : ℕ) : Type 0 where
-  pub answer : Replied
+  pub answer : Result Replied Refused
   pub replies : Replies limit s reply answer
   pub code : r ≡ reply_code answer
 
@@ -94,12 +97,12 @@ pub record DigitsCodes (limit : ℕ) (s reply : List ℕ) (i r : ℕ) : Type 0 w
   pub absent : (DigitsGiven limit s reply i → digits_place i reply < 2 ^ 48 → ⊥) → r ≡ 0
 
 -- what `make` and `print` answer, as one number: the bytes written, or the refusal
-abbrev pub written_code : Written → ℕ
-written_code (Done n) = n
-written_code (Written-as-Refused r) = refusal_code (record { number = r.number; place = tellable r.place })
+abbrev pub written_code : Result ℕ Refused → ℕ
+written_code (Ok n) = n
+written_code (Err e) = refusal_code (told_of e)
 
 pub record MakeCodes (limit : ℕ) (text before : List ℕ) (r : ℕ) (after : List ℕ) : Type 0 where
-  pub answer : Written
+  pub answer : Result ℕ Refused
   pub makes : Makes limit text before answer after
   pub code : r ≡ written_code answer
 

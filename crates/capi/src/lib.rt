@@ -5,13 +5,12 @@
 ghost use Rattle.std.specs.Prelude.{◌≡◌, ◌<◌, ◌^◌, true, false};
 ghost use Rattle.layout.specs.Limits.{most_nodes};
 ghost use Rattle.wording.specs.Form.{sixteen, form_of};
-ghost use Rattle.capi.specs.Codes.{read_code, name_code, block_code, refusal_code, CheckCodes, tally_code, tellable, written_code, ScriptCodes, MakeCodes, TextCodes, ReplyCodes, DigitsCodes};
+ghost use Rattle.capi.specs.Codes.{read_code, name_code, block_code, refusal_code, CheckCodes, tally_code, tellable, told_of, written_code, ScriptCodes, MakeCodes, TextCodes, ReplyCodes, DigitsCodes};
 
-use cases::Checked;
+use cases::Verdict;
 use layout::NAME_START;
 use numbers::VariableNumber;
-use refusals::{Reading, Refusal};
-use room::Written;
+use refusals::{Refusal, Refused};
 use trial::Replied;
 use wording::ScriptForm;
 
@@ -24,10 +23,9 @@ const COUNT: u64 = 16777216;
 pub fn ragwashin_read(sheet: &[u8]) -> u64
     ensures { result ≡ read_code most_nodes sheet.now }
 {
-    let reading = reading::read(sheet);
-    match reading {
-        Reading::Accepted => 0,
-        Reading::Refused(refusal) => refusal_code(refusal),
+    match reading::read(sheet) {
+        Ok(()) => 0,
+        Err(refused) => refusal_code(refused.into()),
     }
 }
 
@@ -60,22 +58,19 @@ fn refusal_code(refusal: Refusal) -> u64
 pub fn ragwashin_check(sheet: &[u8], room: &mut [i16]) -> u64
     ensures { CheckCodes most_nodes sheet.now room.old result room.new }
 {
-    let checked = cases::check(sheet, room);
-    match checked {
-        Checked::Holds => 0,
-        Checked::Fails => 1,
-        Checked::Refused(refusal) => refusal_code(refusal),
+    match cases::check(sheet, room) {
+        Ok(Verdict::Holds) => 0,
+        Ok(Verdict::Fails) => 1,
+        Err(refused) => refusal_code(refused.into()),
     }
 }
 
 pub fn ragwashin_tally(sheet: &[u8]) -> u64
     ensures { result ≡ tally_code most_nodes sheet.now }
 {
-    let tally = cases::tally(sheet);
-    let reading = tally.reading;
-    match reading {
-        Reading::Accepted => tally.held as u64 * COUNT + tally.failed as u64,
-        Reading::Refused(refusal) => refusal_code(refusal),
+    match cases::tally(sheet) {
+        Ok(tallied) => tallied.held as u64 * COUNT + tallied.failed as u64,
+        Err(refused) => refusal_code(refused.into()),
     }
 }
 
@@ -83,22 +78,26 @@ pub fn ragwashin_tally(sheet: &[u8]) -> u64
 fn told_place(place: usize) -> usize
     ensures { (result ≡ tellable place) × (result < 2 ^ 48) }
 {
-    if place < NUMBER as usize {
-        return place;
+    place.min(NUMBER as usize - 1)
+}
+
+// A refusal as it is told of a text or a reply, which may be longer than 48 bits say.
+fn told(refused: Refused) -> Refusal
+    ensures { (result ≡ told_of refused) × (result.place < 2 ^ 48) }
+{
+    Refusal {
+        number: refused.cause as u16,
+        place: told_place(refused.place),
     }
-    NUMBER as usize - 1
 }
 
 // What a call that writes bytes answers, as one number.
-fn written_code(written: Written) -> u64
+fn written_code(written: Result<usize, Refused>) -> u64
     ensures { result ≡ written_code written }
 {
     match written {
-        Written::Done(size) => size as u64,
-        Written::Refused(refusal) => refusal_code(Refusal {
-            number: refusal.number,
-            place: told_place(refusal.place),
-        }),
+        Ok(size) => size as u64,
+        Err(refused) => refusal_code(told(refused)),
     }
 }
 
@@ -136,14 +135,10 @@ pub fn ragwashin_text(sheet: &[u8], room: &mut [u8]) -> u64
 pub fn ragwashin_reply(sheet: &[u8], reply: &[u8]) -> u64
     ensures { ReplyCodes most_nodes sheet.now reply.now result }
 {
-    let replied = trial::reply(sheet, reply);
-    match replied {
-        Replied::Unsat => 0,
-        Replied::Fails => 1,
-        Replied::Refused(refusal) => refusal_code(Refusal {
-            number: refusal.number,
-            place: told_place(refusal.place),
-        }),
+    match trial::reply(sheet, reply) {
+        Ok(Replied::Unsat) => 0,
+        Ok(Replied::Fails) => 1,
+        Err(refused) => refusal_code(told(refused)),
     }
 }
 
