@@ -2,19 +2,9 @@
 use mathlib.Core.Path.{sym, ap}
 use native.Mathlib.Omega.{arith}
 use lib.ListN.{length}
-use Rattle.kinds.specs.Kinds.{row}
 use Rattle.room.proofs.RoomLaws.{wrote_as, chain, wrote-part}
-use Rattle.expressions.specs.Phrases.{phrase_at}
-use Rattle.expressions.proofs.PhraseLaws.{length-1, length-2, length-3, wrote_one, wrote-two, wrote-three, inside, node-text, never-wrong, one-node, two-node, three-node, named-variable, named-text}
+use Rattle.expressions.proofs.PhraseLaws.{wrote_one, wrote-two, wrote-three, inside, node-text, never-wrong, one-node, two-node, three-node, named-variable, named-text}
 use Rattle.expressions.proofs.+one_operand_phrase_three_two.Goals as goal
-
-pub one-put_word-p-requires : goal.one-put_word-p-requires
-one-put_word-p-requires t c = let a = c.args in omega (arith, length-1 (row a.fields.kind).plain (phrase_at a.sheet.now a.fields.a))
-
-pub one-operand-requires : goal.one-operand-requires
-one-operand-requires t c =
-    let a = c.args in
-    (omega arith, (c.requires.0, omega (arith, length-1 (row a.fields.kind).plain (phrase_at a.sheet.now a.fields.a))))
 
 pub one-returns : goal.one-returns
 one-returns t c =
@@ -77,40 +67,9 @@ pub phrase-returns-in-Three : goal.phrase-returns-in-Three
 phrase-returns-in-Three t c =
     wrote_as c.three.ensures (sym (node-text c.requires.0 c.record_at-fields.ensures c.shape_of.ensures c.in-Three.is))
 
-pub three-put_word-p-requires : goal.three-put_word-p-requires
-three-put_word-p-requires t c = let a = c.args in omega (arith, length-3 (row a.fields.kind).plain (phrase_at a.sheet.now a.fields.a) (phrase_at a.sheet.now a.fields.b) (phrase_at a.sheet.now a.fields.c))
-
-pub three-operand-q-requires : goal.three-operand-q-requires
-three-operand-q-requires t c =
-    let a = c.args in
-    (omega arith, (c.requires.0, omega (arith, length-3 (row a.fields.kind).plain (phrase_at a.sheet.now a.fields.a) (phrase_at a.sheet.now a.fields.b) (phrase_at a.sheet.now a.fields.c))))
-
-pub three-operand-r-requires : goal.three-operand-r-requires
-three-operand-r-requires t c =
-    let a = c.args in
-    (omega arith, (c.requires.1, omega (arith, length-3 (row a.fields.kind).plain (phrase_at a.sheet.now a.fields.a) (phrase_at a.sheet.now a.fields.b) (phrase_at a.sheet.now a.fields.c))))
-
-pub three-operand-requires : goal.three-operand-requires
-three-operand-requires t c =
-    let a = c.args in
-    (omega arith, (c.requires.2, omega (arith, length-3 (row a.fields.kind).plain (phrase_at a.sheet.now a.fields.a) (phrase_at a.sheet.now a.fields.b) (phrase_at a.sheet.now a.fields.c))))
-
 pub three-returns : goal.three-returns
 three-returns t c =
     wrote-three (omega arith) c.put_word-p.ensures c.operand-q.ensures c.operand-r.ensures c.operand.ensures
-
-pub two-put_word-p-requires : goal.two-put_word-p-requires
-two-put_word-p-requires t c = let a = c.args in omega (arith, length-2 (row a.fields.kind).plain (phrase_at a.sheet.now a.fields.a) (phrase_at a.sheet.now a.fields.b))
-
-pub two-operand-q-requires : goal.two-operand-q-requires
-two-operand-q-requires t c =
-    let a = c.args in
-    (omega arith, (c.requires.0, omega (arith, length-2 (row a.fields.kind).plain (phrase_at a.sheet.now a.fields.a) (phrase_at a.sheet.now a.fields.b))))
-
-pub two-operand-requires : goal.two-operand-requires
-two-operand-requires t c =
-    let a = c.args in
-    (omega arith, (c.requires.1, omega (arith, length-2 (row a.fields.kind).plain (phrase_at a.sheet.now a.fields.a) (phrase_at a.sheet.now a.fields.b))))
 
 pub two-returns : goal.two-returns
 two-returns t c =

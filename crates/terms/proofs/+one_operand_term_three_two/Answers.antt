@@ -8,9 +8,6 @@ use Rattle.pieces.proofs.PieceLaws.{literal-length}
 use Rattle.terms.proofs.TextLaws.{inside, node-text, valued-text, named_small, one-node, two-node, three-node, wrote_one, wrote-two, wrote-three}
 use Rattle.terms.proofs.+one_operand_term_three_two.Goals as goal
 
-pub one-operand-q-requires : goal.one-operand-q-requires
-one-operand-q-requires t c = (omega arith, (c.requires.0, omega arith))
-
 pub one-returns : goal.one-returns
 one-returns t c =
     wrote_one (omega arith) c.head-p.ensures c.operand-q.ensures c.put.ensures
@@ -73,24 +70,9 @@ pub term-returns-in-Three : goal.term-returns-in-Three
 term-returns-in-Three t c =
     wrote_as c.three.ensures (sym (node-text c.requires.0 c.record_at-fields.ensures c.shape_of.ensures c.in-Three.is))
 
-pub three-operand-q-requires : goal.three-operand-q-requires
-three-operand-q-requires t c = (omega arith, (c.requires.0, omega arith))
-
-pub three-operand-r-requires : goal.three-operand-r-requires
-three-operand-r-requires t c = (omega arith, (c.requires.1, omega arith))
-
-pub three-operand-s-requires : goal.three-operand-s-requires
-three-operand-s-requires t c = (omega arith, (c.requires.2, omega arith))
-
 pub three-returns : goal.three-returns
 three-returns t c =
     wrote-three (omega arith) c.head-p.ensures c.operand-q.ensures c.operand-r.ensures c.operand-s.ensures c.put.ensures
-
-pub two-operand-q-requires : goal.two-operand-q-requires
-two-operand-q-requires t c = (omega arith, (c.requires.0, omega arith))
-
-pub two-operand-r-requires : goal.two-operand-r-requires
-two-operand-r-requires t c = (omega arith, (c.requires.1, omega arith))
 
 pub two-returns : goal.two-returns
 two-returns t c =

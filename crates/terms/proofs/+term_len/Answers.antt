@@ -10,10 +10,6 @@ use Rattle.terms.proofs.+term_len.Goals as goal
 pub record_at-fields-requires : goal.record_at-fields-requires
 record_at-fields-requires t c = inside c.requires
 
-pub overflow_add-result : goal.overflow_add-result
-overflow_add-result t c =
-    let o = one-node c.requires c.record_at-fields.ensures c.shape_of.ensures c.in-One.is in omega arith
-
 pub term_len-requires : goal.term_len-requires
 term_len-requires t c =
     let o = one-node c.requires c.record_at-fields.ensures c.shape_of.ensures c.in-One.is in (omega arith, o.first)
@@ -21,10 +17,6 @@ term_len-requires t c =
 pub overflow_add-result-in-One : goal.overflow_add-result-in-One
 overflow_add-result-in-One t c =
     let o = one-node c.requires c.record_at-fields.ensures c.shape_of.ensures c.in-One.is in omega arith
-
-pub overflow_add-result-in-Two : goal.overflow_add-result-in-Two
-overflow_add-result-in-Two t c =
-    let o = two-node c.requires c.record_at-fields.ensures c.shape_of.ensures c.in-Two.is in omega arith
 
 pub term_len-requires-in-Two : goal.term_len-requires-in-Two
 term_len-requires-in-Two t c =
@@ -41,10 +33,6 @@ term_len-requires-in-Two-2 t c =
 pub overflow_add-result-in-Two-3 : goal.overflow_add-result-in-Two-3
 overflow_add-result-in-Two-3 t c =
     let o = two-node c.requires c.record_at-fields.ensures c.shape_of.ensures c.in-Two.is in omega arith
-
-pub overflow_add-result-in-Three : goal.overflow_add-result-in-Three
-overflow_add-result-in-Three t c =
-    let o = three-node c.requires c.record_at-fields.ensures c.shape_of.ensures c.in-Three.is in omega arith
 
 pub term_len-requires-in-Three : goal.term_len-requires-in-Three
 term_len-requires-in-Three t c =
