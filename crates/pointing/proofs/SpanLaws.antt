@@ -27,9 +27,6 @@ pub record Coming (vs : List Variable) (e : Expression) (s : List ℕ) (p k pend
   pub bytes : k + bytes_in vs todo ≡ p + length (spelled vs e) + 1
   pub few : nodes ≤ k
 
-pub coming-begin : (vs : List Variable) (e : Expression) {s : List ℕ} {p : ℕ} → StandAt vs (e ∷ []) s p → Coming vs e s p p 1 0
-coming-begin vs e x = record { todo = e ∷ []; stand = x; many = refl; count = omega arith; bytes = omega arith; few = omega arith }
-
 module _ {vs : List Variable} {e : Expression} {s : List ℕ} {p k pending nodes : ℕ} (x : Coming vs e s p k pending nodes) where
   -- what a turn needs and makes, where there is a next expression
   pub record Turned : Type 0 where
