@@ -12,6 +12,8 @@ use denote.Ref.{Bor}
 use lib.Dec.{lit<, lit≤}
 use lib.IntN.{ℤ, pos, negsuc}
 use lib.ListN.{length, set, take, drop}
+use Rattle.std.specs.Prelude.{Result, Ok, Err}
+use Rattle.refusals.specs.declared.Refused.{Refused}
 use Rattle.lists.specs.Ascii.{ascii}
 use Rattle.lists.specs.Places.{all_below}
 use Rattle.lists.specs.Course.{below, course}
@@ -39,7 +41,6 @@ use Rattle.layout.specs.Fold.{of_tree, of_node}
 use Rattle.layout.proofs.Agree.{domain-nameless}
 use Rattle.layout.proofs.Example.{are_bytes, bytes-by}
 use Rattle.refusals.specs.declared.Refusal.{Refusal}
-use Rattle.refusals.specs.declared.Reading.TheVariants.{Accepted as accepted}
 use Rattle.refusals.specs.Rows.{Answered}
 use Rattle.blocks.specs.Block.{BlockPart}
 use Rattle.blocks.specs.Early.{length_right, early}
@@ -57,7 +58,7 @@ use Rattle.reading.specs.Name.{NamePart}
 use Rattle.reading.proofs.Exact.{sheet-exactly}
 use Rattle.reading.proofs.Ranges.{node_value, in-range, in-16-bits}
 use Rattle.odometer.specs.Limit.{most_cases, case_count}
-use Rattle.cases.specs.declared.Checked.TheVariants.{Holds, Fails}
+use Rattle.cases.specs.declared.Verdict.TheVariants.{Holds, Fails}
 use Rattle.cases.specs.Checks.{Checks}
 use Rattle.cases.specs.Tallies.{Tallies}
 use Rattle.smtlib.specs.Tokens.{digit_value}
@@ -183,13 +184,13 @@ module _ {s other : List ℕ} {held_cases failed_cases : ℕ} {first_case : Opti
 
   -- ---- the check, with room for three numbers
   module _ (room : List ℤ) (three : length room ≡ 3) where
-    pub fails-as : {first : List ℤ} → first_case ≡ some first → Checks most_nodes s room Fails (first ++ drop (length first) room)
+    pub fails-as : {first : List ℤ} → first_case ≡ some first → Checks most_nodes s room (Ok Fails) (first ++ drop (length first) room)
     fails-as e =
         let d = checked sheet few-cases (enough room three) in
         let f = first-is ∙ e in
         record { answer = rw (d, f); room = rw (d, f) }
 
-    pub holds_as : first_case ≡ none → Checks most_nodes s room Holds room
+    pub holds_as : first_case ≡ none → Checks most_nodes s room (Ok Holds) room
     holds_as e =
         let d = checked sheet few-cases (enough room three) in
         let f = first-is ∙ e in
@@ -197,28 +198,28 @@ module _ {s other : List ℕ} {held_cases failed_cases : ℕ} {first_case : Opti
 
     -- a rule that fails: some setting satisfies the script
     pub some-setting : (models : Bool) {first : List ℤ} → first_case ≡ some first → (t : List ℕ) × Satisfies (script (sixteen models) (rule_in s)) t
-    some-setting models e = (check-agrees models s sheet few-cases room _ Fails (enough room three) (fails-as e)).0.0 refl
+    some-setting models e = (check-agrees models s sheet few-cases room _ (Ok Fails) (enough room three) (fails-as e)).0.0 refl
 
     -- and the case that the check names gives one
     pub named-setting : (models : Bool) {first : List ℤ} → (e : first_case ≡ some first) → Satisfies (script (sixteen models) (rule_in s)) (setting_of 16 (take (variable_count s) (first ++ drop (length first) room)))
-    named-setting models e = (check-agrees models s sheet few-cases room _ Fails (enough room three) (fails-as e)).1 refl
+    named-setting models e = (check-agrees models s sheet few-cases room _ (Ok Fails) (enough room three) (fails-as e)).1 refl
 
     -- which is the first that fails; the number past it stays
     pub first-named-as : {first : List ℤ} → first_case ≡ some first → FirstFailing (rule_in s) (take (variable_count s) (first ++ drop (length first) room))
     first-named-as e = first-named s sheet few-cases room _ (enough room three) (fails-as e)
 
     pub past-kept : {first : List ℤ} → first_case ≡ some first → drop (variable_count s) (first ++ drop (length first) room) ≡ drop (variable_count s) room
-    past-kept e = ((rooms-kept s).0 room _ Fails (fails-as e)).past
+    past-kept e = ((rooms-kept s).0 room _ (Ok Fails) (fails-as e)).past
 
     -- a rule that holds: none does
     pub no-setting : (models : Bool) → first_case ≡ none → (t : List ℕ) → Satisfies (script (sixteen models) (rule_in s)) t → ⊥
     no-setting models e t h =
-        let d : Holds ≡ Fails = (check-agrees models s sheet few-cases room room Holds (enough room three) (holds_as e)).0.1 (t, h) in
+        let d : Ok Holds ≡ Ok Fails = (check-agrees models s sheet few-cases room room (Ok Holds) (enough room three) (holds_as e)).0.1 (t, h) in
         let z : ◌≡◌ {A = ℕ} 0 1 = cc in
         omega arith
 
     pub all_hold : first_case ≡ none → AllHold (rule_in s)
-    all_hold e = (holds-where s sheet few-cases room room Holds (enough room three) (holds_as e)).0 refl
+    all_hold e = (holds-where s sheet few-cases room room (Ok Holds) (enough room three) (holds_as e)).0 refl
 
 -- ---- sheet A, and the same with the names a and b; the sheet of edge case 11, and the same with the names p and q
 abbrev pub sheet_b : List ℕ

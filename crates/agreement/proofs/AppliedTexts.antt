@@ -11,6 +11,10 @@ use lib.Dec.{lit≤}
 use lib.IntN.{pos}
 use lib.Signed.{le_z_yes}
 use lib.ListN.{length, take, replicate}
+use Rattle.std.specs.Prelude.{Result, Ok, Err}
+use Rattle.refusals.specs.declared.Cause.TheVariants.{Sort}
+use Rattle.refusals.specs.declared.Refused.{Refused}
+use Rattle.refusals.specs.Causes.{refusal_of as told_as}
 use Rattle.lists.specs.Ascii.{ascii}
 use Rattle.lists.specs.Places.{all_below}
 use Rattle.lists.specs.Course.{below, course}
@@ -43,8 +47,6 @@ use Rattle.grammar.specs.Begins.{Leaves}
 use Rattle.grammar.specs.Stops.{stop}
 use Rattle.grammar.proofs.BeginLaws.{leaves-as, no_member}
 use Rattle.grammar.proofs.WordLaws.{step, behind, accepts as ends, empty}
-use Rattle.room.specs.declared.Written.{Written}
-use Rattle.room.specs.declared.Written.TheVariants.{Done, Refused}
 use Rattle.room.specs.Room.{over}
 use Rattle.room.specs.Written.{written_said, Fills}
 use Rattle.texts.specs.Expressions.{number, variable, two, records_of, Draft, draft_of, draft_sheet}
@@ -130,17 +132,17 @@ text-fits-A = subst (λ (t : List ℕ). length t ≤ 55) (sym computed_a.text) (
 text-passes-A : text_refusal most_nodes sheet_a 55 ≡ none
 text-passes-A = text-passes most_nodes sheet_a 55 (accepts sheet-A) no-words-A text-fits-A
 
-fills-A : Fills (draft_refusal most_nodes draft_a 1025) (draft_sheet draft_a) sheet-room (Done 1024) (sheet_a ++ (0 ∷ []))
+fills-A : Fills (draft_refusal most_nodes draft_a 1025) (draft_sheet draft_a) sheet-room (Ok 1024) (sheet_a ++ (0 ∷ []))
 unfolding over
 fills-A = rw (draft-passes-A, computed_a.sheet) (record { answer = refl; room = refl })
 
-pub makes-A : Makes most_nodes text_a sheet-room (Done 1024) (sheet_a ++ (0 ∷ []))
+pub makes-A : Makes most_nodes text_a sheet-room (Ok 1024) (sheet_a ++ (0 ∷ []))
 makes-A = record {
   off = λ p w. absurd (no_member Text w (record { draft = draft_a; says = says-A }));
-  said = λ d w. subst (λ (e : Draft). Fills (draft_refusal most_nodes e 1025) (draft_sheet e) sheet-room (Done 1024) (sheet_a ++ (0 ∷ []))) (one-draft says-A w) fills-A;
+  said = λ d w. subst (λ (e : Draft). Fills (draft_refusal most_nodes e 1025) (draft_sheet e) sheet-room (Ok 1024) (sheet_a ++ (0 ∷ []))) (one-draft says-A w) fills-A;
 }
 
-pub prints-A : Prints most_nodes sheet_a text-room (Done 54) (text_a ++ (0 ∷ []))
+pub prints-A : Prints most_nodes sheet_a text-room (Ok 54) (text_a ++ (0 ∷ []))
 unfolding over
 prints-A = rw (text-passes-A, computed_a.text) (record { answer = refl; room = refl })
 
@@ -148,10 +150,10 @@ pub made-sheet-A : MadeOf text_a sheet-room 1024 (sheet_a ++ (0 ∷ []))
 made-sheet-A = made-sheet text_a sheet-room _ 1024 makes-A
 
 pub make-room-A : length (sheet_a ++ (0 ∷ [])) ≡ length sheet-room
-make-room-A = (make-room text_a sheet-room _ (Done 1024) makes-A).1
+make-room-A = (make-room text_a sheet-room _ (Ok 1024) makes-A).1
 
-pub print-room-A : RoomOf (text_of (rule_in sheet_a)) text-room (Done 54) (text_a ++ (0 ∷ []))
-print-room-A = print-room sheet_a text-room _ (Done 54) prints-A
+pub print-room-A : RoomOf (text_of (rule_in sheet_a)) text-room (Ok 54) (text_a ++ (0 ∷ []))
+print-room-A = print-room sheet_a text-room _ (Ok 54) prints-A
 
 pub text-short-A : length (text_of (rule_in sheet_a)) ≤ longest_text
 text-short-A = text-room-enough sheet_a sheet-A
@@ -161,20 +163,20 @@ unfolding records_of
 made-short-A = made-room-enough text_a draft_a says-A (lit≤ tt) (lit≤ tt)
 
 -- ---- there and back
-pub text-again-A : (room left : List ℕ) (r : Written) → 54 ≤ length room → Prints most_nodes (take 1024 (sheet_a ++ (0 ∷ []))) room r left → (r ≡ Done 54) × (take 54 left ≡ text_a)
+pub text-again-A : (room left : List ℕ) (r : Result ℕ Refused) → 54 ≤ length room → Prints most_nodes (take 1024 (sheet_a ++ (0 ∷ []))) room r left → (r ≡ Ok 54) × (take 54 left ≡ text_a)
 text-again-A = text-sheet-text text_a sheet-room _ 1024 makes-A
 
-pub sheet-again-A : (n : ℕ) × (Done 54 ≡ Done n) × ((room left : List ℕ) (t : Written) → 1024 ≤ length room → Makes most_nodes (take n (text_a ++ (0 ∷ []))) room t left → (t ≡ Done 1024) × (take 1024 left ≡ sheet_a))
-sheet-again-A = sheet-text-sheet sheet_a sheet-A no-words-A text-room _ (Done 54) text-fits-A prints-A
+pub sheet-again-A : (n : ℕ) × (Ok 54 ≡ Ok n) × ((room left : List ℕ) (t : Result ℕ Refused) → 1024 ≤ length room → Makes most_nodes (take n (text_a ++ (0 ∷ []))) room t left → (t ≡ Ok 1024) × (take 1024 left ≡ sheet_a))
+sheet-again-A = sheet-text-sheet sheet_a sheet-A no-words-A text-room _ (Ok 54) text-fits-A prints-A
 
-pub made-A : (before after : List ℕ) (r : Written) → 1024 ≤ length before → Makes most_nodes text_a before r after → (r ≡ Done 1024) × (take 1024 after ≡ sheet_a)
+pub made-A : (before after : List ℕ) (r : Result ℕ Refused) → 1024 ≤ length before → Makes most_nodes text_a before r after → (r ≡ Ok 1024) × (take 1024 after ≡ sheet_a)
 made-A before after r l h =
     let e = (sheet-of-rule sheet_a sheet-A).1 in
-    subst (λ (s : List ℕ). length s ≤ length before → (r ≡ Done (length s)) × (take (length s) after ≡ s)) e
+    subst (λ (s : List ℕ). length s ≤ length before → (r ≡ Ok (length s)) × (take (length s) after ≡ s)) e
     (λ k. printed-made (rule_in sheet_a) allowed-A no-words-A before after r k (subst (λ (t : List ℕ). Makes most_nodes t before r after) (sym computed_a.text) h)) l
 
 -- the limit of 248 nodes made the same
-pub as-before-A : (before after : List ℕ) (r : Written) → Makes 248 text_a before r after ↔ Makes most_nodes text_a before r after
+pub as-before-A : (before after : List ℕ) (r : Result ℕ Refused) → Makes 248 text_a before r after ↔ Makes most_nodes text_a before r after
 unfolding records_of
 as-before-A = made-as-before 248 most_nodes (lit≤ tt) text_a (λ d w. subst (λ (e : Draft). length (records_of e.goal 0) ≤ 248) (one-draft says-A w) (lit≤ tt))
 
@@ -185,22 +187,22 @@ text_b = ascii "goal add 1 2\n"
 abbrev pub draft_b : Draft
 draft_b = record { variables = []; goal = two Kind.Sum (number (pos 1)) (number (pos 2)) }
 
-abbrev seventh : Refusal
-seventh = record { number = 7; place = 2 }
+abbrev seventh : Refused
+seventh = record { cause = Sort; place = 2 }
 
 pub says-B : Says text_b draft_b
 unfolding printed spelled signed decimal decimal_in
 says-B = record { variables = tt; goal = (refl, record { low = le_z_yes tt; high = le_z_yes tt }, record { low = le_z_yes tt; high = le_z_yes tt }); text = refl }
 
-refusal-B : (room : ℕ) → draft_refusal most_nodes draft_b room ≡ some seventh
+refusal-B : (room : ℕ) → draft_refusal most_nodes draft_b room ≡ some (told_as seventh)
 unfolding all_below below course first enc dec is_narrow has_narrow_ends least_of greatest_of find kind_of weighted check_of block_right sealed start_at of_node sheet_with length_right early zeros counts_right tail_clear outside_clear header is_letter is_name_byte all_name_bytes name_right same_bytes variable_right fresh finding_of rightly_placed typed node_refusal nodes refusal_of records_of draft_refusal
 refusal-B room = refl
 
-pub refused-B : (before after : List ℕ) (r : Written) → Makes most_nodes text_b before r after → (r ≡ Refused seventh) × (after ≡ before)
+pub refused-B : (before after : List ℕ) (r : Result ℕ Refused) → Makes most_nodes text_b before r after → (r ≡ Err seventh) × (after ≡ before)
 refused-B before after r h = refused (h.said draft_b says-B) (refusal-B (length before))
 
-pub row-B : (before after : List ℕ) (r : Written) → Makes most_nodes text_b before r after → Answered (draft_rows most_nodes draft_b (length before)) seventh
-row-B before after r h = (((make-refused-by-row most_nodes text_b before after r h).1 draft_b says-B).refused seventh).0 (ap (λ (x : Written). (written_said x).0) (refused-B before after r h).0)
+pub row-B : (before after : List ℕ) (r : Result ℕ Refused) → Makes most_nodes text_b before r after → Answered (draft_rows most_nodes draft_b (length before)) (told_as seventh)
+row-B before after r h = (((make-refused-by-row most_nodes text_b before after r h).1 draft_b says-B).refused (told_as seventh)).0 (ap (λ (x : Result ℕ Refused). (written_said x).0) (refused-B before after r h).0)
 
 -- ---- bytes that are no text: `not` is a word and no name, 18 at the space behind it
 abbrev pub text_c : List ℕ
@@ -213,5 +215,5 @@ place-C = refl
 pub leaves-C : Leaves Text text_c 7
 leaves-C = (leaves-as text-lines text_c 7).1 ((leaves-exactly text_c 7).0 place-C)
 
-pub refused-C : (before after : List ℕ) (r : Written) → Makes most_nodes text_c before r after → (written_said r).0 ≡ some (record { number = 18; place = 7 })
+pub refused-C : (before after : List ℕ) (r : Result ℕ Refused) → Makes most_nodes text_c before r after → (written_said r).0 ≡ some (record { number = 18; place = 7 })
 refused-C before after r h = ((make-refused-by-row most_nodes text_c before after r h).0 7).1 leaves-C

@@ -40,13 +40,13 @@ spelled-setting x = ap (map (enc 16)) (sym x.case) ∙ encs-decs x.setting (sett
 pub replies-satisfy : promise.RepliesSatisfy
 replies-satisfy models s h reply = (to, from)
   where
-    to : Replies most_nodes s reply Fails → (t : List ℕ) × Satisfies (script (sixteen models) (rule_in s)) t × SpellsSetting (variable_count s) reply t
+    to : Replies most_nodes s reply (Ok Fails) → (t : List ℕ) × Satisfies (script (sixteen models) (rule_in s)) t × SpellsSetting (variable_count s) reply t
     to r =
         let w = (replies-believed s h reply).0 r in
         let x = w.2 in
         (x.setting, subst (Satisfies (script (sixteen models) (rule_in s))) (spelled-setting x) ((match models s h).satisfies w.0 w.1), x.spelled)
 
-    from : (t : List ℕ) × Satisfies (script (sixteen models) (rule_in s)) t × SpellsSetting (variable_count s) reply t → Replies most_nodes s reply Fails
+    from : (t : List ℕ) × Satisfies (script (sixteen models) (rule_in s)) t × SpellsSetting (variable_count s) reply t → Replies most_nodes s reply (Ok Fails)
     from w =
         let p = (match models s h).onto w.0 w.1 in
         let c = p.0 in

@@ -6,10 +6,11 @@ use mathlib.Core.Option.{Option, none, some}
 use native.Mathlib.Omega.{arith}
 use lib.ListN.{length, take, drop, length-append, length-drop}
 use lib.Seq.{take_at, drop_at}
+use Rattle.std.specs.Prelude.{Result, Ok, Err}
+use Rattle.refusals.specs.declared.Refused.{Refused}
+use Rattle.refusals.specs.Causes.{refusal_of as told_as}
 use Rattle.refusals.specs.declared.Refusal.{Refusal}
 use Rattle.room.specs.Room.{over}
-use Rattle.room.specs.declared.Written.{Written}
-use Rattle.room.specs.declared.Written.TheVariants.{Done, Refused}
 use Rattle.room.specs.Written.{written_said, written_verdict, Fills}
 use Rattle.room.proofs.WrittenLaws.{written-injective}
 use Rattle.agreement.specs.Texts.{RoomOf}
@@ -18,14 +19,14 @@ verdict-refusal : (o : Option Refusal) (t : List ℕ) → (written_verdict o t).
 verdict-refusal none t = refl
 verdict-refusal (some q) t = refl
 
-module _ {o : Option Refusal} {t before after : List ℕ} {r : Written} (h : Fills o t before r after) where
+module _ {o : Option Refusal} {t before after : List ℕ} {r : Result ℕ Refused} (h : Fills o t before r after) where
   pub said-refusal : (written_said r).0 ≡ o
   said-refusal = ap (λ (x : Option Refusal × ℕ). x.0) h.answer ∙ verdict-refusal o t
 
   -- where nothing is refused
   module _ (e : o ≡ none) where
-    pub done : r ≡ Done (length t)
-    done = written-injective r (Done (length t)) (h.answer ∙ rw e)
+    pub done : r ≡ Ok (length t)
+    done = written-injective r (Ok (length t)) (h.answer ∙ rw e)
 
     room-is : after ≡ t ++ drop (length t) before
     unfolding over
@@ -40,19 +41,19 @@ module _ {o : Option Refusal} {t before after : List ℕ} {r : Written} (h : Fil
     whole : length t ≤ length before → length after ≡ length before
     whole l = ap length room-is ∙ length-append t (drop (length t) before) ∙ omega (arith, length-drop (length t) before)
 
-  pub refused : {q : Refusal} → o ≡ some q → (r ≡ Refused q) × (after ≡ before)
-  refused {q} e = (written-injective r (Refused q) (h.answer ∙ rw e), h.room ∙ rw e)
+  pub refused : {e : Refused} → o ≡ some (told_as e) → (r ≡ Err e) × (after ≡ before)
+  refused {e} d = (written-injective r (Err e) (h.answer ∙ rw d), h.room ∙ rw d)
 
   -- by the answer
-  pub done-passes : {n : ℕ} → r ≡ Done n → (o ≡ none) × (length t ≡ n)
+  pub done-passes : {n : ℕ} → r ≡ Ok n → (o ≡ none) × (length t ≡ n)
   done-passes d =
-      let e : o ≡ none = sym said-refusal ∙ ap (λ (x : Written). (written_said x).0) d in
-      (e, sym (ap (λ (x : Written). (written_said x).1) (done e)) ∙ ap (λ (x : Written). (written_said x).1) d)
+      let e : o ≡ none = sym said-refusal ∙ ap (λ (x : Result ℕ Refused). (written_said x).0) d in
+      (e, sym (ap (λ (x : Result ℕ Refused). (written_said x).1) (done e)) ∙ ap (λ (x : Result ℕ Refused). (written_said x).1) d)
 
-  refused-kept : {q : Refusal} → r ≡ Refused q → after ≡ before
-  refused-kept d = (refused (sym said-refusal ∙ ap (λ (x : Written). (written_said x).0) d)).1
+  refused-kept : {e : Refused} → r ≡ Err e → after ≡ before
+  refused-kept d = (refused (sym said-refusal ∙ ap (λ (x : Result ℕ Refused). (written_said x).0) d)).1
 
-  written_is : {n : ℕ} → r ≡ Done n → (take n after ≡ t) × (drop n after ≡ drop n before)
+  written_is : {n : ℕ} → r ≡ Ok n → (take n after ≡ t) × (drop n after ≡ drop n before)
   written_is d =
       let w = done-passes d in
       subst (λ (k : ℕ). (take k after ≡ t) × (drop k after ≡ drop k before)) w.1 (front w.0, behind w.0)

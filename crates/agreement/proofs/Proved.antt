@@ -11,6 +11,8 @@ use native.Mathlib.Decide.{dec_lt, dec_le}
 use native.Mathlib.Omega.{arith}
 use lib.IntN.{ℤ}
 use lib.ListN.{length, take, length-map}
+use Rattle.std.specs.Prelude.{Result, Ok, Err}
+use Rattle.refusals.specs.declared.Refused.{Refused}
 use Rattle.lists.specs.Places.{NoRepeats}
 use Rattle.lists.proofs.PartLaws.{empty-where}
 use Rattle.numbers.proofs.Bytes16.{narrow_within}
@@ -39,7 +41,7 @@ use Rattle.reading.proofs.NameLaws.{given-name}
 use Rattle.reading.proofs.RuleLaws.{accepted-means, rule-some, rule-exactly, rule-to-sheet, rule-allowed, sheet-to-rule}
 use Rattle.reading.proofs.Change.{changed-byte}
 use Rattle.odometer.specs.Limit.{most_cases, case_count}
-use Rattle.cases.specs.declared.Checked.TheVariants.{Fails}
+use Rattle.cases.specs.declared.Verdict.TheVariants.{Holds, Fails}
 use Rattle.cases.specs.Checks.{try_refusal, check_refusal}
 use Rattle.cases.proofs.Exact.{tally-exactly, check-exactly}
 use Rattle.cases.proofs.Agreement.{fails-exactly, holds-exactly, room-fails}
@@ -196,7 +198,7 @@ check-agrees models s h few before after r l c =
     let none-refused = checked h few l in
     (Iff.trans (fails-exactly s c none-refused) (some-setting models s h), named none-refused)
   where
-    named : check_refusal most_nodes s (length before) ≡ none → r ≡ Fails → Satisfies (script (sixteen models) (rule_in s)) (setting_of 16 (take (variable_count s) after))
+    named : check_refusal most_nodes s (length before) ≡ none → r ≡ Ok Fails → Satisfies (script (sixteen models) (rule_in s)) (setting_of 16 (take (variable_count s) after))
     named e p =
         let first = take (variable_count s) after in
         (matched models s h).satisfies first (room-fails s c e p).0.failing

@@ -10,6 +10,8 @@ use native.Mathlib.Omega.{arith}
 use lib.IntN.{ℤ}
 use lib.ListN.{length}
 use denote.Ref.{Bor}
+use Rattle.std.specs.Prelude.{Result, Ok, Err}
+use Rattle.refusals.specs.declared.Refused.{Refused}
 use Rattle.lists.proofs.FirstLaws.{otherwise-none, otherwise-some}
 use Rattle.refusals.specs.declared.Refusal.{Refusal}
 use Rattle.refusals.specs.Rows.{Exactly}
@@ -24,12 +26,11 @@ use Rattle.reading.specs.Rows.{sheet_rows, Accepted}
 use Rattle.reading.specs.Cascade.{refusal_of, rule_of}
 use Rattle.reading.specs.Name.{NamePart}
 use Rattle.reading.proofs.Exact.{sheet-exactly}
-use Rattle.cases.specs.declared.Checked.{Checked}
+use Rattle.cases.specs.declared.Verdict.{Verdict}
 use Rattle.cases.specs.declared.Tallied.{Tallied}
 use Rattle.cases.specs.Checks.{try_refusal, check_refusal, Checks}
 use Rattle.cases.specs.Tallies.{Tallies}
 use Rattle.wording.specs.Form.{Form}
-use Rattle.room.specs.declared.Written.{Written}
 use Rattle.writer.specs.Writes.{script_refusal, Writes}
 use Rattle.printer.specs.Prints.{text_refusal, Prints}
 use Rattle.trial.specs.declared.Replied.{Replied}
@@ -114,20 +115,20 @@ module _ (a b : ℕ) (s : List ℕ) (e : refusal_of a s ≡ refusal_of b s) wher
   unfolding script_refusal
   script-as f room = rw e
 
-  checks-as : {before after : List ℤ} {r : Checked} → Checks a s before r after → Checks b s before r after
+  checks-as : {before after : List ℤ} {r : Result Verdict Refused} → Checks a s before r after → Checks b s before r after
   checks-as {before} h = record { answer = rw (← check-as (length before)) h.answer; room = rw (← check-as (length before)) h.room }
 
-  tallies-as : {r : Tallied} → Tallies a s r → Tallies b s r
+  tallies-as : {r : Result Tallied Refused} → Tallies a s r → Tallies b s r
   tallies-as h = record { answer = rw (← e) h.answer; held-count = rw (← e) h.held-count; failed-count = rw (← e) h.failed-count }
 
-  writes_as : {f : Form} {before after : List ℕ} {r : Written} → Writes a f s before r after → Writes b f s before r after
+  writes_as : {f : Form} {before after : List ℕ} {r : Result ℕ Refused} → Writes a f s before r after → Writes b f s before r after
   writes_as {f} {before} h = record { answer = rw (← script-as f (length before)) h.answer; room = rw (← script-as f (length before)) h.room }
 
   text-as : (room : ℕ) → text_refusal a s room ≡ text_refusal b s room
   unfolding text_refusal
   text-as room = rw e
 
-  prints-as : {before after : List ℕ} {r : Written} → Prints a s before r after → Prints b s before r after
+  prints-as : {before after : List ℕ} {r : Result ℕ Refused} → Prints a s before r after → Prints b s before r after
   prints-as {before} h = rw (← text-as (length before)) h
 
   check-codes-as : {before after : List ℤ} {r : ℕ} → CheckCodes a s before r after → CheckCodes b s before r after
@@ -143,10 +144,10 @@ module _ (a b : ℕ) (s : List ℕ) (e : refusal_of a s ≡ refusal_of b s) wher
   same-table : Exactly (sheet_rows b s) (refusal_of a s)
   same-table = rw e (sheet-exactly b s)
 
-  replies-as : {reply : List ℕ} {r : Replied} → Replies a s reply r → Replies b s reply r
+  replies-as : {reply : List ℕ} {r : Result Replied Refused} → Replies a s reply r → Replies b s reply r
   replies-as h = record { refusals = exactly-instead (sheet-exactly a s) same-table _ h.refusals; told = h.told }
 
-  into-as : {reply : List ℕ} {before after : List ℤ} {r : Replied} → RepliesInto a s reply before r after → RepliesInto b s reply before r after
+  into-as : {reply : List ℕ} {before after : List ℤ} {r : Result Replied Refused} → RepliesInto a s reply before r after → RepliesInto b s reply before r after
   into-as h = record { answer = replies-as h.answer; room = h.room }
 
   given-as : {reply : List ℕ} {i : ℕ} → DigitsGiven a s reply i → DigitsGiven b s reply i

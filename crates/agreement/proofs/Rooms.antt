@@ -8,6 +8,9 @@ use native.Mathlib.Omega.{arith}
 use lib.IntN.{ℤ}
 use lib.ListN.{length, drop, length-append, length-drop}
 use lib.Seq.{drop_at}
+use Rattle.std.specs.Prelude.{Result, Ok, Err}
+use Rattle.refusals.specs.declared.Refused.{Refused}
+use Rattle.refusals.specs.Causes.{refusal_of as told_as}
 use Rattle.meaning.specs.Cases.{first_failure}
 use Rattle.meaning.proofs.Failures.{first-fails}
 use Rattle.layout.specs.Parts.{variable_count, rule_in}
@@ -16,11 +19,10 @@ use Rattle.refusals.specs.declared.Refusal.{Refusal}
 use Rattle.refusals.proofs.AfterLaws.{passed}
 use Rattle.layout.specs.Limits.{most_nodes}
 use Rattle.reading.specs.Cascade.{refusal_of}
-use Rattle.cases.specs.declared.Checked.{Checked}
+use Rattle.cases.specs.declared.Verdict.{Verdict}
 use Rattle.cases.specs.Checks.{try_refusal, check_refusal, checked_said, Checks}
 use Rattle.wording.specs.Form.{Form}
 use Rattle.wording.specs.Script.{script}
-use Rattle.room.specs.declared.Written.{Written}
 use Rattle.writer.specs.Writes.{script_refusal, Writes}
 use Rattle.agreement.specs.Statements as promise
 use Rattle.agreement.specs.Statements.{CheckRoom, ScriptRoom}
@@ -39,7 +41,7 @@ module _ {A : Type 0} (x room : List A) (n : ℕ) (e : length x ≡ n) (l : n �
 refusal-of : {A : Type 0} {x y : Option Refusal × A} → x ≡ y → x.0 ≡ y.0
 refusal-of {A} e = ap (λ (z : Option Refusal × A). z.0) e
 
-check-room : (s : List ℕ) (before after : List ℤ) (r : Checked) → Checks most_nodes s before r after → CheckRoom s before r after
+check-room : (s : List ℕ) (before after : List ℤ) (r : Result Verdict Refused) → Checks most_nodes s before r after → CheckRoom s before r after
 unfolding check_refusal
 check-room s before after r h = by (check_refusal most_nodes s (length before)) refl (first_failure (rule_in s)) refl
   where
@@ -62,13 +64,13 @@ check-room s before after r h = by (check_refusal most_nodes s (length before)) 
         let e : after ≡ c ++ drop v before = h.room ∙ rw (p, q, n) in
         let said = other p q in
         record {
-          refused = λ x d. absurd (none-ne-some x (refusal-of (sym said) ∙ ap (λ (t : Checked). (checked_said t).0) d));
-          holds = λ d. absurd (true≢false (sym (ap (λ (y : Option Refusal × Bool). y.1) said) ∙ ap (λ (t : Checked). (checked_said t).1) d));
+          refused = λ x d. absurd (none-ne-some (told_as x) (refusal-of (sym said) ∙ ap (λ (t : Result Verdict Refused). (checked_said t).0) d));
+          holds = λ d. absurd (true≢false (sym (ap (λ (y : Option Refusal × Bool). y.1) said) ∙ ap (λ (t : Result Verdict Refused). (checked_said t).1) d));
           past = ap (drop v) e ∙ behind c before v n l;
           size = ap length e ∙ whole c before v n l;
         }
 
-script-room : (f : Form) (s before after : List ℕ) (r : Written) → Writes most_nodes f s before r after → ScriptRoom f s before r after
+script-room : (f : Form) (s before after : List ℕ) (r : Result ℕ Refused) → Writes most_nodes f s before r after → ScriptRoom f s before r after
 unfolding script_refusal
 script-room f s before after r h =
     let t : List ℕ = script f (rule_in s) in

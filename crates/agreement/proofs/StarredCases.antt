@@ -7,6 +7,8 @@ use mathlib.Core.Option.{Option, none, some}
 use lib.Dec.{leb}
 use lib.IntN.{ℤ}
 use lib.ListN.{length, get_or}
+use Rattle.std.specs.Prelude.{Result, Ok, Err}
+use Rattle.refusals.specs.declared.Refused.{Refused}
 use Rattle.lists.specs.Places.{all_below}
 use Rattle.lists.specs.Course.{below, course}
 use Rattle.lists.specs.First.{first}
@@ -22,7 +24,6 @@ use Rattle.layout.specs.Goal.{tree_at}
 use Rattle.layout.specs.Parts.{variable_count, rule_in}
 use Rattle.layout.specs.Fold.{of_tree, of_node}
 use Rattle.refusals.specs.declared.Refusal.{Refusal}
-use Rattle.refusals.specs.declared.Reading.TheVariants.{Accepted}
 use Rattle.blocks.specs.Early.{length_right, early}
 use Rattle.header.specs.Header.{zeros, counts_right, tail_clear, outside_clear, header}
 use Rattle.lists.specs.Names.{same_bytes}
@@ -33,14 +34,13 @@ use Rattle.order.specs.Order.{rightly_placed}
 use Rattle.nodes.specs.Nodes.{typed, node_refusal, nodes}
 use Rattle.reading.specs.Cascade.{refusal_of}
 use Rattle.odometer.specs.Limit.{most_cases, case_count}
-use Rattle.cases.specs.declared.Checked.{Checked}
+use Rattle.cases.specs.declared.Verdict.{Verdict}
 use Rattle.cases.specs.Checks.{check_refusal, checked_said, is_some, with_case, Checks}
 use Rattle.cases.specs.Tallies.{Tallies}
 use Rattle.wording.specs.Sixteen.{hex_digit, hex_text, literal, symbol_text}
 use Rattle.wording.specs.Form.{sixteen}
 use Rattle.wording.specs.Script.{script}
 use Rattle.room.specs.Room.{over}
-use Rattle.room.specs.declared.Written.TheVariants.{Done}
 use Rattle.writer.specs.Writes.{script_refusal, Writes}
 use Rattle.agreement.specs.Starred.{StarredCase, EachMet, starred_cases}
 
@@ -56,17 +56,17 @@ in_row n e = ap (λ (l : List (Option Refusal)). get_or l n none) e
 
 -- ---- what the other calls answer of an accepted sheet
 module _ (s : List ℕ) (e : refusal_of most_nodes s ≡ none) where
-  writes_as : (room : List ℕ) {t : List ℕ} → script (sixteen false) (rule_in s) ≡ t → leb (length t) (length room) ≡ true → Writes most_nodes (sixteen false) s room (Done (length t)) (over t room)
+  writes_as : (room : List ℕ) {t : List ℕ} → script (sixteen false) (rule_in s) ≡ t → leb (length t) (length room) ≡ true → Writes most_nodes (sixteen false) s room (Ok (length t)) (over t room)
   unfolding script_refusal
   writes_as room {t} p enough =
       let d : script_refusal most_nodes (sixteen false) s (length room) ≡ none = rw (e, p, enough) in
       record { answer = rw (d, p); room = rw (d, p) }
 
   module _ (few : leb (case_count (rule_in s)) most_cases ≡ true) where
-    tallies-as : {h f : ℕ} → held (rule_in s) ≡ h → failed (rule_in s) ≡ f → Tallies most_nodes s (record { reading = Accepted; held = h; failed = f })
+    tallies-as : {h f : ℕ} → held (rule_in s) ≡ h → failed (rule_in s) ≡ f → Tallies most_nodes s (Ok (record { held = h; failed = f }))
     tallies-as p q = record { answer = rw (e, few); held-count = rw (e, few, p); failed-count = rw (e, few, q) }
 
-    checks-as : (room : List ℤ) {f : Option (List ℤ)} {r : Checked} → leb (variable_count s) (length room) ≡ true → first_failure (rule_in s) ≡ f → checked_said r ≡ (none, is_some f) → Checks most_nodes s room r (with_case f room)
+    checks-as : (room : List ℤ) {f : Option (List ℤ)} {r : Result Verdict Refused} → leb (variable_count s) (length room) ≡ true → first_failure (rule_in s) ≡ f → checked_said r ≡ (none, is_some f) → Checks most_nodes s room r (with_case f room)
     unfolding check_refusal
     checks-as room enough p said =
         let d : check_refusal most_nodes s (length room) ≡ none = rw (e, few, enough) in

@@ -6,6 +6,8 @@ use mathlib.Core.List.{List, []}
 use mathlib.Core.Option.{Option, some}
 use native.Mathlib.Omega.{arith}
 use lib.ListN.{length, take, drop}
+use Rattle.std.specs.Prelude.{Result, Ok, Err}
+use Rattle.refusals.specs.declared.Refused.{Refused}
 use Rattle.refusals.specs.declared.Refusal.{Refusal}
 use Rattle.refusals.proofs.BoundLaws.{bounded-answer}
 use Rattle.layout.specs.Limits.{most_nodes}
@@ -15,8 +17,6 @@ use Rattle.reading.specs.Cascade.{refusal_of}
 use Rattle.reading.proofs.Exact.{sheet-exactly}
 use Rattle.grammar.specs.Begins.{Leaves}
 use Rattle.grammar.proofs.BeginLaws.{no_member, one_place}
-use Rattle.room.specs.declared.Written.{Written}
-use Rattle.room.specs.declared.Written.TheVariants.{Done, Refused}
 use Rattle.room.specs.Written.{written_said, Fills}
 use Rattle.texts.specs.Expressions.{Draft, draft_of, draft_sheet}
 use Rattle.texts.specs.Plain.{text_of}
@@ -73,14 +73,14 @@ pub print-refused-by-row : promise.PrintRefusedExactly
 print-refused-by-row = text-exactly
 
 -- ---- what is written, and the room
-module _ {limit : ℕ} {text before after : List ℕ} {r : Written} (h : Makes limit text before r after) where
+module _ {limit : ℕ} {text before after : List ℕ} {r : Result ℕ Refused} (h : Makes limit text before r after) where
   no_text : (p : ℕ) → Leaves Text text p → RoomOf [] before r after
   no_text p w = room_of (h.off p w) (λ e. omega arith)
 
   of-draft : (d : Draft) → Says text d → RoomOf (draft_sheet d) before r after
   of-draft d w = room_of (h.said d w) (λ e. (draft-passed limit d (length before) e).fits)
 
-  pub make-kept : ((q : Refusal) → r ≡ Refused q → after ≡ before) × (length after ≡ length before)
+  pub make-kept : ((e : Refused) → r ≡ Err e → after ≡ before) × (length after ≡ length before)
   make-kept = ⊎_elim (λ t. let w = of-draft t.draft t.says in (w.refused, w.size)) (λ p. let w = no_text p.0 p.1 in (w.refused, w.size)) (text-or-leaves text)
 
 pub make-room : promise.MakeRoom
@@ -97,7 +97,7 @@ record Made (text before : List ℕ) (n : ℕ) (after : List ℕ) : Type 0 where
   front : take n after ≡ draft_sheet draft
   past : drop n after ≡ drop n before
 
-made : {text before after : List ℕ} {n : ℕ} → Makes most_nodes text before (Done n) after → Made text before n after
+made : {text before after : List ℕ} {n : ℕ} → Makes most_nodes text before (Ok n) after → Made text before n after
 made {text} {before} {after} {n} h = go (text-or-leaves text)
   where
     go : Text text ⊎ ((p : ℕ) × Leaves Text text p) → Made text before n after
@@ -143,7 +143,7 @@ text-sheet-text text before after n h room left r l g =
     let e : text ≡ text_of (rule_in (draft_sheet d)) = made-text-is m.says m.passes in
     let f : Prints most_nodes (draft_sheet d) room r left = rw m.front at g in
     let none-refused = text-passes most_nodes (draft_sheet d) (length room) m.passes.accepted (made-no-words m.says m.passes) (subst (λ (t : List ℕ). length t ≤ length room) e l) in
-    subst (λ (t : List ℕ). (r ≡ Done (length t)) × (take (length t) left ≡ t)) (sym e) (done f none-refused, front f none-refused)
+    subst (λ (t : List ℕ). (r ≡ Ok (length t)) × (take (length t) left ≡ t)) (sym e) (done f none-refused, front f none-refused)
 
 pub printed-made : promise.PrintedMade
 printed-made q a avoid before after r l h =
@@ -157,14 +157,14 @@ printed-made q a avoid before after r l h =
       accepted = ap (refusal_of most_nodes) e ∙ accepts s;
       fits = subst (λ (t : List ℕ). length t ≤ length before) (sym e) l;
     }) in
-    subst (λ (t : List ℕ). (r ≡ Done (length t)) × (take (length t) after ≡ t)) e (done f none-refused, front f none-refused)
+    subst (λ (t : List ℕ). (r ≡ Ok (length t)) × (take (length t) after ≡ t)) e (done f none-refused, front f none-refused)
 
 pub sheet-text-sheet : promise.SheetTextSheet
 sheet-text-sheet s h avoid before after r l p =
     let t : List ℕ = text_of (rule_in s) in
     let e = text-passes most_nodes s (length before) (accepts h) avoid l in
     let w = sheet-of-rule s h in
-    (length t, done p e, λ room left x k g. subst (λ (u : List ℕ). (x ≡ Done (length u)) × (take (length u) left ≡ u)) w.1 (printed-made (rule_in s) w.0 avoid room left x (subst (λ (u : List ℕ). length u ≤ length room) (sym w.1) k) (rw (front p e) at g)))
+    (length t, done p e, λ room left x k g. subst (λ (u : List ℕ). (x ≡ Ok (length u)) × (take (length u) left ≡ u)) w.1 (printed-made (rule_in s) w.0 avoid room left x (subst (λ (u : List ℕ). length u ≤ length room) (sym w.1) k) (rw (front p e) at g)))
 
 -- ---- one answer each
 pub one-text-answer : promise.OneTextAnswer

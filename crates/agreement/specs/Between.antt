@@ -1,5 +1,7 @@
 -- Between crates: of each public function whose `ensures` is no mere equation, no second answer and no second room fits the predicate that it names.
 -- The calls themselves have this in `Statements`: `OneAnswer`.
+use Rattle.std.specs.Prelude.{Result, Ok, Err}
+use Rattle.refusals.specs.declared.Refused.{Refused}
 use Rattle.std.specs.Prelude.{ℕ, ◌≡◌, Bool, List, ℤ}
 use Rattle.std.proofs.Math.Option.{Option}
 use Rattle.std.specs.Borrow.{Bor}
@@ -7,7 +9,6 @@ use Rattle.lists.specs.Part.{PartAt, SamePart}
 use Rattle.numbers.specs.declared.Range.{Range}
 use Rattle.meaning.specs.Odometer.{Lowered, Advanced}
 use Rattle.refusals.specs.declared.Refusal.{Refusal}
-use Rattle.refusals.specs.declared.Reading.{Reading}
 use Rattle.refusals.specs.Said.{said_of}
 use Rattle.room.specs.Room.{Wrote}
 use Rattle.lines.specs.Lines.{LinesSize}
@@ -22,7 +23,7 @@ use Rattle.building.specs.Building.{Buildable, Builds}
 -- the steps of the reading, a name's part, the odometer, what writes into room, how long the lines of variables are, how far bytes begin a reply, and the numbers
 -- that a reply spells; how far bytes begin a text, and the nodes of an expression that stands in one
 pub record OneBetween : Type 0 where
-  pub step : (said : Option Refusal) (r t : Reading) → said_of r ≡ said → said_of t ≡ said → r ≡ t
+  pub step : (said : Option Refusal) (r t : Result Unit Refused) → said_of r ≡ said → said_of t ≡ said → r ≡ t
   pub part : (whole p q : Bor (List ℕ)) (a n : ℕ) → PartAt whole p a n → PartAt whole q a n → SamePart p q
   pub lowest : (domains : ℕ → Range) (v : ℕ) (old x y : List ℤ) → Lowered domains v old x → Lowered domains v old y → x ≡ y
   pub advance : (domains : ℕ → Range) (v : ℕ) (old x y : List ℤ) (r t : Bool) → Advanced domains v old r x → Advanced domains v old t y → (r ≡ t) × (x ≡ y)

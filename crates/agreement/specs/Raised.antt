@@ -1,5 +1,7 @@
 -- The limit of nodes raised (document 02, item 3): which answers stay, over any two limits, the old one at most the new one. Proved in `proofs/Raised` and
 -- `proofs/Long`. What reads the limit has it as its first argument; the calls have `most_nodes` there. `block` reads none.
+use Rattle.std.specs.Prelude.{Result, Ok, Err}
+use Rattle.refusals.specs.declared.Refused.{Refused}
 use Rattle.std.specs.Prelude.{ℕ, ◌≤◌, ◌<◌, ◌≡◌, Bool, ◌↔◌, ◌⊎◌, List, ℤ, length}
 use Rattle.std.proofs.Math.Option.{some}
 use Rattle.std.specs.Borrow.{Bor}
@@ -8,13 +10,12 @@ use Rattle.layout.specs.Parts.{node_count, rule_in}
 use Rattle.reading.specs.Rows.{Accepted}
 use Rattle.reading.specs.Cascade.{refusal_of, rule_of}
 use Rattle.reading.specs.Name.{NamePart}
-use Rattle.cases.specs.declared.Checked.{Checked}
+use Rattle.cases.specs.declared.Verdict.{Verdict}
 use Rattle.cases.specs.declared.Tallied.{Tallied}
 use Rattle.cases.specs.Checks.{Checks}
 use Rattle.cases.specs.Tallies.{Tallies}
 use Rattle.wording.specs.Form.{Form, sixteen}
 use Rattle.wording.specs.Script.{script}
-use Rattle.room.specs.declared.Written.{Written}
 use Rattle.writer.specs.Writes.{Writes}
 use Rattle.printer.specs.Prints.{Prints}
 use Rattle.trial.specs.declared.Replied.{Replied}
@@ -31,12 +32,12 @@ pub record SameAnswers (old new : ℕ) (s : List ℕ) : Type 0 where
   pub rule : rule_of new s ≡ rule_of old s
   pub read : refusal_of new s ≡ refusal_of old s
   pub name : (sheet part : Bor (List ℕ)) (variable : ℕ) → sheet.now ≡ s → NamePart old sheet variable part ↔ NamePart new sheet variable part
-  pub check : (before after : List ℤ) (r : Checked) → Checks old s before r after ↔ Checks new s before r after
-  pub tally : (r : Tallied) → Tallies old s r ↔ Tallies new s r
-  pub write-script : (f : Form) (before after : List ℕ) (r : Written) → Writes old f s before r after ↔ Writes new f s before r after
-  pub print : (before after : List ℕ) (r : Written) → Prints old s before r after ↔ Prints new s before r after
-  pub reply : (reply : List ℕ) (r : Replied) → Replies old s reply r ↔ Replies new s reply r
-  pub reply-into : (reply : List ℕ) (before after : List ℤ) (r : Replied) → RepliesInto old s reply before r after ↔ RepliesInto new s reply before r after
+  pub check : (before after : List ℤ) (r : Result Verdict Refused) → Checks old s before r after ↔ Checks new s before r after
+  pub tally : (r : Result Tallied Refused) → Tallies old s r ↔ Tallies new s r
+  pub write-script : (f : Form) (before after : List ℕ) (r : Result ℕ Refused) → Writes old f s before r after ↔ Writes new f s before r after
+  pub print : (before after : List ℕ) (r : Result ℕ Refused) → Prints old s before r after ↔ Prints new s before r after
+  pub reply : (reply : List ℕ) (r : Result Replied Refused) → Replies old s reply r ↔ Replies new s reply r
+  pub reply-into : (reply : List ℕ) (before after : List ℤ) (r : Result Replied Refused) → RepliesInto old s reply before r after ↔ RepliesInto new s reply before r after
   pub digits : (reply part : Bor (List ℕ)) (variable : ℕ) → DigitsPart old s reply variable part ↔ DigitsPart new s reply variable part
   pub digits-span : (reply : List ℕ) (variable start size : ℕ) → DigitsSpan old s reply variable start size ↔ DigitsSpan new s reply variable start size
   -- the C interface

@@ -1,6 +1,8 @@
 -- The promises over the whole, a definition each, in the order of the demands. Each is proved under its name in `proofs/Proved`, and its premises are met
 -- in `proofs/Applied`. What each call answers stands beside it: `refusal_of`, `NamePart`, `BlockPart`, `Checks`, `Tallies`, `Writes`, `Replies`, `DigitsPart`,
 -- `capi/specs/Codes`.
+use Rattle.std.specs.Prelude.{Result, Ok, Err}
+use Rattle.refusals.specs.declared.Refused.{Refused}
 use Rattle.std.specs.Prelude.{ℕ, ◌+◌, ◌/◌, ◌≤◌, ◌<◌, ◌≡◌, Bool, true, false, ◌↔◌, ◌⊎◌, ℤ, length, set, take, drop}
 use mathlib.Core.List.{List, map, Memᴰ}
 use Rattle.std.proofs.Math.Option.{some}
@@ -24,7 +26,6 @@ use Rattle.layout.specs.Checks.{check_of, content, stored_check, Inside}
 use Rattle.layout.specs.WellFormed.{WellFormed}
 use Rattle.layout.specs.Parts.{variable_count, rule_in, Nameless}
 use Rattle.layout.specs.Sheet.{sheet_of}
-use Rattle.refusals.specs.declared.Reading.{Reading}
 use Rattle.refusals.specs.Said.{said_of}
 use Rattle.blocks.specs.Block.{BlockPart}
 use Rattle.capi.specs.Codes.{CheckCodes, ScriptCodes, ReplyCodes, DigitsCodes}
@@ -33,8 +34,8 @@ use Rattle.reading.specs.Cascade.{refusal_of}
 use Rattle.reading.specs.Lawful.{Allowed}
 use Rattle.reading.specs.Name.{NamePart}
 use Rattle.odometer.specs.Limit.{most_cases, case_count}
-use Rattle.cases.specs.declared.Checked.{Checked}
-use Rattle.cases.specs.declared.Checked.TheVariants.{Holds, Fails, Refused as Checked-as-Refused}
+use Rattle.cases.specs.declared.Verdict.{Verdict}
+use Rattle.cases.specs.declared.Verdict.TheVariants.{Holds, Fails}
 use Rattle.cases.specs.declared.Tallied.{Tallied}
 use Rattle.cases.specs.Checks.{try_refusal, check_refusal, Checks}
 use Rattle.cases.specs.Tallies.{Tallies}
@@ -49,8 +50,6 @@ use Rattle.wording.specs.Binary.{in_bits}
 use Rattle.wording.specs.Script.{script}
 use Rattle.forms.specs.Readable.{Readable}
 use Rattle.forms.specs.Width.{WidthHolds}
-use Rattle.room.specs.declared.Written.{Written}
-use Rattle.room.specs.declared.Written.TheVariants.{Done, Refused}
 use Rattle.writer.specs.Writes.{script_refusal, enough_room, Writes}
 use Rattle.writer.specs.Rows.{script_rows}
 use Rattle.replies.specs.Says.{SpellsSetting, SpellsCase}
@@ -111,33 +110,33 @@ AllCounted = (r : Rule) → (held r + failed r ≡ length (cases_of r)) × (leng
 -- up to 1,000,000 cases and with room for V numbers, the check says that the rule holds exactly where every case holds
 abbrev pub HoldsExactly : Type 0
 HoldsExactly =
-    (s : List ℕ) → Sheet s → case_count (rule_in s) ≤ most_cases → (before after : List ℤ) (r : Checked) → variable_count s ≤ length before → Checks most_nodes s before r after
-    → (r ≡ Holds) ↔ AllHold (rule_in s)
+    (s : List ℕ) → Sheet s → case_count (rule_in s) ≤ most_cases → (before after : List ℤ) (r : Result Verdict Refused) → variable_count s ≤ length before → Checks most_nodes s before r after
+    → (r ≡ Ok Holds) ↔ AllHold (rule_in s)
 
 -- and where it says that the rule fails, the first V numbers of the room are the first failing case
 abbrev pub FirstNamed : Type 0
 FirstNamed =
-    (s : List ℕ) → Sheet s → case_count (rule_in s) ≤ most_cases → (before after : List ℤ) → variable_count s ≤ length before → Checks most_nodes s before Fails after
+    (s : List ℕ) → Sheet s → case_count (rule_in s) ≤ most_cases → (before after : List ℤ) → variable_count s ≤ length before → Checks most_nodes s before (Ok Fails) after
     → FirstFailing (rule_in s) (take (variable_count s) after)
 
 -- any bytes, any room: only a check that fails changes the room, and then nothing past V numbers
-pub record CheckRoom (s : List ℕ) (before : List ℤ) (r : Checked) (after : List ℤ) : Type 0 where
-  pub refused : (q : Refusal) → r ≡ Checked-as-Refused q → after ≡ before
-  pub holds : r ≡ Holds → after ≡ before
+pub record CheckRoom (s : List ℕ) (before : List ℤ) (r : Result Verdict Refused) (after : List ℤ) : Type 0 where
+  pub refused : (e : Refused) → r ≡ Err e → after ≡ before
+  pub holds : r ≡ Ok Holds → after ≡ before
   pub past : drop (variable_count s) after ≡ drop (variable_count s) before
   pub size : length after ≡ length before
 
 -- only a script that is written changes the room: n bytes, which are the script, and nothing past them
-pub record ScriptRoom (f : Form) (s before : List ℕ) (r : Written) (after : List ℕ) : Type 0 where
-  pub refused : (q : Refusal) → r ≡ Refused q → after ≡ before
-  pub written : (n : ℕ) → r ≡ Done n → (take n after ≡ script f (rule_in s)) × (drop n after ≡ drop n before)
+pub record ScriptRoom (f : Form) (s before : List ℕ) (r : Result ℕ Refused) (after : List ℕ) : Type 0 where
+  pub refused : (e : Refused) → r ≡ Err e → after ≡ before
+  pub written : (n : ℕ) → r ≡ Ok n → (take n after ≡ script f (rule_in s)) × (drop n after ≡ drop n before)
   pub size : length after ≡ length before
 
 abbrev pub RoomKept : Type 0
 RoomKept =
     (s : List ℕ)
-    → ((before after : List ℤ) (r : Checked) → Checks most_nodes s before r after → CheckRoom s before r after)
-    × ((f : Form) (before after : List ℕ) (r : Written) → Writes most_nodes f s before r after → ScriptRoom f s before r after)
+    → ((before after : List ℤ) (r : Result Verdict Refused) → Checks most_nodes s before r after → CheckRoom s before r after)
+    × ((f : Form) (before after : List ℕ) (r : Result ℕ Refused) → Writes most_nodes f s before r after → ScriptRoom f s before r after)
 
 -- in no case does an operator leave 16 bits: each integer in the goal has a value in -32,768..32,767
 abbrev pub InSixteenBits : Type 0
@@ -181,9 +180,9 @@ MatchInBits = (models : Bool) (w : ℕ) → 1 ≤ w → (r : Rule) → WellForme
 -- up to 1,000,000 cases and with room for V numbers, the check reports a failing case exactly when some setting satisfies the script, and the case gives one
 abbrev pub CheckAgrees : Type 0
 CheckAgrees =
-    (models : Bool) (s : List ℕ) → Sheet s → case_count (rule_in s) ≤ most_cases → (before after : List ℤ) (r : Checked) → variable_count s ≤ length before → Checks most_nodes s before r after
-    → ((r ≡ Fails) ↔ ((t : List ℕ) × Satisfies (script (sixteen models) (rule_in s)) t))
-    × (r ≡ Fails → Satisfies (script (sixteen models) (rule_in s)) (setting_of 16 (take (variable_count s) after)))
+    (models : Bool) (s : List ℕ) → Sheet s → case_count (rule_in s) ≤ most_cases → (before after : List ℤ) (r : Result Verdict Refused) → variable_count s ≤ length before → Checks most_nodes s before r after
+    → ((r ≡ Ok Fails) ↔ ((t : List ℕ) × Satisfies (script (sixteen models) (rule_in s)) t))
+    × (r ≡ Ok Fails → Satisfies (script (sixteen models) (rule_in s)) (setting_of 16 (take (variable_count s) after)))
 
 -- the settings that satisfy the script, each once, are as many as the tally's failed count says
 pub record SettingsListed (text : List ℕ) (ts : List (List ℕ)) : Type 0 where
@@ -192,8 +191,8 @@ pub record SettingsListed (text : List ℕ) (ts : List (List ℕ)) : Type 0 wher
 
 abbrev pub TallyAgrees : Type 0
 TallyAgrees =
-    (models : Bool) (s : List ℕ) → Sheet s → case_count (rule_in s) ≤ most_cases → (r : Tallied) → Tallies most_nodes s r
-    → (ts : List (List ℕ)) × SettingsListed (script (sixteen models) (rule_in s)) ts × (r.failed ≡ length ts)
+    (models : Bool) (s : List ℕ) → Sheet s → case_count (rule_in s) ≤ most_cases → (r : Result Tallied Refused) → Tallies most_nodes s r
+    → (ts : List (List ℕ)) × SettingsListed (script (sixteen models) (rule_in s)) ts × (failed_said r ≡ length ts)
 
 -- two accepted sheets with the same script, in one form, have one length, and differ in no byte but name lengths, names and block 0's check
 abbrev pub SameScript : Type 0
@@ -203,13 +202,13 @@ SameScript =
 
 -- ---- replies (document 02, item 1): what is believed spells a failing case, and every spelling of every failing case is believed, whoever wrote it
 abbrev pub RepliesBelieved : Type 0
-RepliesBelieved = (s : List ℕ) → Sheet s → (reply : List ℕ) → Replies most_nodes s reply Replied-as-Fails ↔ ((c : List ℤ) × Failing (rule_in s) c × SpellsCase (variable_count s) reply c)
+RepliesBelieved = (s : List ℕ) → Sheet s → (reply : List ℕ) → Replies most_nodes s reply (Ok Replied-as-Fails) ↔ ((c : List ℤ) × Failing (rule_in s) c × SpellsCase (variable_count s) reply c)
 
 -- so, in either form, exactly the spellings of settings that satisfy the script are believed
 abbrev pub RepliesSatisfy : Type 0
 RepliesSatisfy =
     (models : Bool) (s : List ℕ) → Sheet s → (reply : List ℕ)
-    → Replies most_nodes s reply Replied-as-Fails ↔ ((t : List ℕ) × Satisfies (script (sixteen models) (rule_in s)) t × SpellsSetting (variable_count s) reply t)
+    → Replies most_nodes s reply (Ok Replied-as-Fails) ↔ ((t : List ℕ) × Satisfies (script (sixteen models) (rule_in s)) t × SpellsSetting (variable_count s) reply t)
 
 -- each failing case has a spelling
 abbrev pub CasesSpelled : Type 0
@@ -225,14 +224,14 @@ DigitsRead =
 
 -- ---- each call: no second answer and no second room fits the predicate that its `ensures` names; of a returned part, bytes and place in memory are meant
 pub record OneAnswer : Type 0 where
-  pub read : (s : List ℕ) (r t : Reading) → said_of r ≡ refusal_of most_nodes s → said_of t ≡ refusal_of most_nodes s → r ≡ t
+  pub read : (s : List ℕ) (r t : Result Unit Refused) → said_of r ≡ refusal_of most_nodes s → said_of t ≡ refusal_of most_nodes s → r ≡ t
   pub name : (sheet : Bor (List ℕ)) (variable : ℕ) (p q : Bor (List ℕ)) → NamePart most_nodes sheet variable p → NamePart most_nodes sheet variable q → SamePart p q
   pub block : (sheet : Bor (List ℕ)) (k : ℕ) (p q : Bor (List ℕ)) → BlockPart sheet k p → BlockPart sheet k q → SamePart p q
-  pub check : (s : List ℕ) (before x y : List ℤ) (r t : Checked) → Checks most_nodes s before r x → Checks most_nodes s before t y → (r ≡ t) × (x ≡ y)
-  pub tally : (s : List ℕ) (r t : Tallied) → Tallies most_nodes s r → Tallies most_nodes s t → r ≡ t
-  pub write-script : (f : Form) (s before x y : List ℕ) (r t : Written) → Writes most_nodes f s before r x → Writes most_nodes f s before t y → (r ≡ t) × (x ≡ y)
-  pub reply : (s reply : List ℕ) (r t : Replied) → Replies most_nodes s reply r → Replies most_nodes s reply t → r ≡ t
-  pub reply-into : (s reply : List ℕ) (before x y : List ℤ) (r t : Replied) → RepliesInto most_nodes s reply before r x → RepliesInto most_nodes s reply before t y → (r ≡ t) × (x ≡ y)
+  pub check : (s : List ℕ) (before x y : List ℤ) (r t : Result Verdict Refused) → Checks most_nodes s before r x → Checks most_nodes s before t y → (r ≡ t) × (x ≡ y)
+  pub tally : (s : List ℕ) (r t : Result Tallied Refused) → Tallies most_nodes s r → Tallies most_nodes s t → r ≡ t
+  pub write-script : (f : Form) (s before x y : List ℕ) (r t : Result ℕ Refused) → Writes most_nodes f s before r x → Writes most_nodes f s before t y → (r ≡ t) × (x ≡ y)
+  pub reply : (s reply : List ℕ) (r t : Result Replied Refused) → Replies most_nodes s reply r → Replies most_nodes s reply t → r ≡ t
+  pub reply-into : (s reply : List ℕ) (before x y : List ℤ) (r t : Result Replied Refused) → RepliesInto most_nodes s reply before r x → RepliesInto most_nodes s reply before t y → (r ≡ t) × (x ≡ y)
   pub digits : (s : List ℕ) (reply : Bor (List ℕ)) (variable : ℕ) (p q : Bor (List ℕ)) → DigitsPart most_nodes s reply variable p → DigitsPart most_nodes s reply variable q → SamePart p q
   pub digits-span : (s reply : List ℕ) (variable a n b m : ℕ) → DigitsSpan most_nodes s reply variable a n → DigitsSpan most_nodes s reply variable b m → (a ≡ b) × (n ≡ m)
   -- of the C interface; its other answers are equations

@@ -1,4 +1,6 @@
 -- What is promised of plain texts (document 02, item 4). Proved in `proofs/Texts`; the premises are met in `proofs/AppliedTexts`.
+use Rattle.std.specs.Prelude.{Result, Ok, Err}
+use Rattle.refusals.specs.declared.Refused.{Refused}
 use Rattle.std.specs.Prelude.{ℕ, ◌≤◌, ◌<◌, ◌≡◌, ◌↔◌, ◌⊎◌, List, length, take, drop}
 use Rattle.std.proofs.Math.Option.{some}
 use Rattle.refusals.specs.declared.Refusal.{Refusal}
@@ -9,8 +11,6 @@ use Rattle.layout.specs.Parts.{rule_in}
 use Rattle.layout.specs.Sheet.{sheet_of}
 use Rattle.reading.specs.Lawful.{Allowed}
 use Rattle.grammar.specs.Begins.{Leaves}
-use Rattle.room.specs.declared.Written.{Written}
-use Rattle.room.specs.declared.Written.TheVariants.{Done, Refused}
 use Rattle.room.specs.Written.{written_said}
 use Rattle.texts.specs.Expressions.{Draft, records_of, draft_of, draft_sheet}
 use Rattle.texts.specs.Plain.{text_of}
@@ -46,7 +46,7 @@ OneRule = (q r : Rule) → Allowed q → NoWords q → Allowed r → NoWords r �
 -- ---- refusals, whatever the limit of nodes: 18 exactly where bytes leave the texts; of a text, those of the table
 abbrev pub MakeRefusedExactly : Type 0
 MakeRefusedExactly =
-    (limit : ℕ) (text before after : List ℕ) (r : Written) → Makes limit text before r after
+    (limit : ℕ) (text before after : List ℕ) (r : Result ℕ Refused) → Makes limit text before r after
     → ((p : ℕ) → ((written_said r).0 ≡ some (record { number = 18; place = p })) ↔ Leaves Text text p)
     × ((d : Draft) → Says text d → Exactly (draft_rows limit d (length before)) (written_said r).0)
 
@@ -54,9 +54,9 @@ abbrev pub PrintRefusedExactly : Type 0
 PrintRefusedExactly = (limit : ℕ) (s : List ℕ) (room : ℕ) → Exactly (text_rows limit s room) (text_refusal limit s room)
 
 -- ---- what is written, and the room: a refusal changes nothing, and nothing past the bytes written is changed
-pub record RoomOf (t before : List ℕ) (r : Written) (after : List ℕ) : Type 0 where
-  pub refused : (q : Refusal) → r ≡ Refused q → after ≡ before
-  pub written : (n : ℕ) → r ≡ Done n → (take n after ≡ t) × (drop n after ≡ drop n before)
+pub record RoomOf (t before : List ℕ) (r : Result ℕ Refused) (after : List ℕ) : Type 0 where
+  pub refused : (e : Refused) → r ≡ Err e → after ≡ before
+  pub written : (n : ℕ) → r ≡ Ok n → (take n after ≡ t) × (drop n after ≡ drop n before)
   pub size : length after ≡ length before
 
 -- the sheet that `make` writes is accepted, and its rule is the text's
@@ -67,14 +67,14 @@ pub record MadeOf (text before : List ℕ) (n : ℕ) (after : List ℕ) : Type 0
   pub past : drop n after ≡ drop n before
 
 abbrev pub MadeSheet : Type 0
-MadeSheet = (text before after : List ℕ) (n : ℕ) → Makes most_nodes text before (Done n) after → MadeOf text before n after
+MadeSheet = (text before after : List ℕ) (n : ℕ) → Makes most_nodes text before (Ok n) after → MadeOf text before n after
 
 -- bytes that are no text, and refused ones, leave the room as it was
 abbrev pub MakeRoom : Type 0
-MakeRoom = (text before after : List ℕ) (r : Written) → Makes most_nodes text before r after → ((q : Refusal) → r ≡ Refused q → after ≡ before) × (length after ≡ length before)
+MakeRoom = (text before after : List ℕ) (r : Result ℕ Refused) → Makes most_nodes text before r after → ((e : Refused) → r ≡ Err e → after ≡ before) × (length after ≡ length before)
 
 abbrev pub PrintRoom : Type 0
-PrintRoom = (s before after : List ℕ) (r : Written) → Prints most_nodes s before r after → RoomOf (text_of (rule_in s)) before r after
+PrintRoom = (s before after : List ℕ) (r : Result ℕ Refused) → Prints most_nodes s before r after → RoomOf (text_of (rule_in s)) before r after
 
 -- a room of 23,183 bytes is enough for every text, and one of 33,280 for every sheet that a text makes
 abbrev pub TextRoomEnough : Type 0
@@ -87,29 +87,29 @@ MadeRoomEnough =
 -- ---- round trips of the calls. Text to sheet to text: each text of which a sheet is made is the printed form of that sheet
 abbrev pub TextSheetText : Type 0
 TextSheetText =
-    (text before after : List ℕ) (n : ℕ) → Makes most_nodes text before (Done n) after
-    → (room left : List ℕ) (r : Written) → length text ≤ length room → Prints most_nodes (take n after) room r left
-    → (r ≡ Done (length text)) × (take (length text) left ≡ text)
+    (text before after : List ℕ) (n : ℕ) → Makes most_nodes text before (Ok n) after
+    → (room left : List ℕ) (r : Result ℕ Refused) → length text ≤ length room → Prints most_nodes (take n after) room r left
+    → (r ≡ Ok (length text)) × (take (length text) left ≡ text)
 
 -- the printed form of an allowed rule that avoids the words is made into that rule's sheet
 abbrev pub PrintedMade : Type 0
 PrintedMade =
     (q : Rule) → Allowed q → NoWords q
-    → (before after : List ℕ) (r : Written) → length (sheet_of q) ≤ length before → Makes most_nodes (text_of q) before r after
-    → (r ≡ Done (length (sheet_of q))) × (take (length (sheet_of q)) after ≡ sheet_of q)
+    → (before after : List ℕ) (r : Result ℕ Refused) → length (sheet_of q) ≤ length before → Makes most_nodes (text_of q) before r after
+    → (r ≡ Ok (length (sheet_of q))) × (take (length (sheet_of q)) after ≡ sheet_of q)
 
 -- sheet to text to sheet
 abbrev pub SheetTextSheet : Type 0
 SheetTextSheet =
     (s : List ℕ) → Sheet s → NoWords (rule_in s)
-    → (before after : List ℕ) (r : Written) → length (text_of (rule_in s)) ≤ length before → Prints most_nodes s before r after
-    → (n : ℕ) × (r ≡ Done n)
-    × ((room left : List ℕ) (t : Written) → length s ≤ length room → Makes most_nodes (take n after) room t left → (t ≡ Done (length s)) × (take (length s) left ≡ s))
+    → (before after : List ℕ) (r : Result ℕ Refused) → length (text_of (rule_in s)) ≤ length before → Prints most_nodes s before r after
+    → (n : ℕ) × (r ≡ Ok n)
+    × ((room left : List ℕ) (t : Result ℕ Refused) → length s ≤ length room → Makes most_nodes (take n after) room t left → (t ≡ Ok (length s)) × (take (length s) left ≡ s))
 
 -- ---- each call: no second answer and no second room
 pub record OneTextAnswer : Type 0 where
-  pub make : (text before x y : List ℕ) (r t : Written) → Makes most_nodes text before r x → Makes most_nodes text before t y → (r ≡ t) × (x ≡ y)
-  pub print : (s before x y : List ℕ) (r t : Written) → Prints most_nodes s before r x → Prints most_nodes s before t y → (r ≡ t) × (x ≡ y)
+  pub make : (text before x y : List ℕ) (r t : Result ℕ Refused) → Makes most_nodes text before r x → Makes most_nodes text before t y → (r ≡ t) × (x ≡ y)
+  pub print : (s before x y : List ℕ) (r t : Result ℕ Refused) → Prints most_nodes s before r x → Prints most_nodes s before t y → (r ≡ t) × (x ≡ y)
   pub ragwashin-make : (text before x y : List ℕ) (r t : ℕ) → MakeCodes most_nodes text before r x → MakeCodes most_nodes text before t y → (r ≡ t) × (x ≡ y)
   pub ragwashin-text : (s before x y : List ℕ) (r t : ℕ) → TextCodes most_nodes s before r x → TextCodes most_nodes s before t y → (r ≡ t) × (x ≡ y)
 
@@ -117,4 +117,4 @@ pub record OneTextAnswer : Type 0 where
 abbrev pub MadeAsBefore : Type 0
 MadeAsBefore =
     (old new : ℕ) → old ≤ new → (text : List ℕ) → ((d : Draft) → Says text d → length (records_of d.goal 0) ≤ old)
-    → (before after : List ℕ) (r : Written) → Makes old text before r after ↔ Makes new text before r after
+    → (before after : List ℕ) (r : Result ℕ Refused) → Makes old text before r after ↔ Makes new text before r after
