@@ -2,7 +2,7 @@
 use Prim.Native.Nat.{ℕ, zero, suc, ◌+◌, ◌-◌, ◌≤◌, ◌<◌}
 use mathlib.Core.Path.{◌≡◌, refl, sym, ap, ap₂, ◌∙◌, fun_ext}
 use mathlib.Core.Logic.{⊎_elim}
-use mathlib.Core.Bool.{Bool, true, false, ◌&&◌}
+use mathlib.Core.Bool.{Bool, true, false, true≢false, ◌&&◌}
 use mathlib.Core.List.{List, [], ◌∷◌}
 use mathlib.Core.Option.{none, some}
 use native.Mathlib.Nat.{zero-add}
@@ -34,7 +34,7 @@ use Rattle.findings.specs.declared.Finding.TheVariants.{Truth}
 use Rattle.findings.specs.declared.kept.Kept.{Kept}
 use Rattle.refusals.specs.declared.Cause.{Cause}
 use Rattle.refusals.specs.Causes.{refusal_of}
-use Rattle.std.proofs.Common.{Ok, Err}
+use Rattle.std.proofs.Common.{Result, Ok, Err, MatchResult, is_ok, IsErrAnd}
 use Rattle.findings.specs.Findings.{sort_of, finding_of, domain_at, finding_at, finding_fits}
 use Rattle.findings.specs.Steps.{Step, same_sort, are_sorted, step_of, Reaches}
 use Rattle.findings.specs.Kept.{truth_kept, findings_in}
@@ -49,6 +49,15 @@ finding-sort s n = found-sort (domain_at s) (table s n).kind _
 -- a node's finding from those of the nodes before it
 abbrev pub step : List ℕ → ℕ → (ℕ → Finding) → Finding
 step s = node_step (finding_of (domain_at s)) (table s)
+
+-- a result whose error is told another way: what it was
+pub was_ok : {T E D : Type 0} (r : Result T E) {m : Result T D} {x : T} (Q : E → Type 0) → MatchResult r (λ y. m ≡ Ok y) Q → is_ok m ≡ is_ok r → m ≡ Ok x → r ≡ Ok x
+was_ok (Ok y) Q p v e = cc
+was_ok (Err d) Q p v e = absurd (true≢false (sym (ap is_ok e) ∙ v))
+
+pub was_err : {T E D : Type 0} (r : Result T E) {m : Result T D} {e : D} (Q : E → D → Type 0) → MatchResult r (λ y. m ≡ Ok y) (λ d. IsErrAnd m (Q d)) → is_ok m ≡ is_ok r → m ≡ Err e → (d : E) × (r ≡ Err d) × Q d e
+was_err (Ok y) Q p v q = absurd (true≢false (sym v ∙ ap is_ok q))
+was_err (Err d) Q p v q = (d, refl, rw q at p)
 
 -- what is known before the turn at i of n nodes over v variables: the arrays have what is found before i, and no node before i is refused
 pub record Going (s : List ℕ) (n v : ℕ) (starts : List ℕ) (findings : List Kept) (i : ℕ) : Type 0 where

@@ -54,11 +54,10 @@ pub fn read_nodes(sheet: &[u8]) -> Result<(), Refused>
                 place: i,
             });
         }
-        // No `map_err` and `?`: the closure would take the place from the loop, and the proofs of both exits get longer for it.
-        let finding = match findings::node_step(sheet, r, &findings) {
-            Ok(finding) => finding,
-            Err(cause) => return Err(Refused { cause, place: i }),
-        };
+        let finding = findings::node_step(sheet, r, &findings).map_err(move |cause| Refused {
+            cause,
+            place: i,
+        })?;
         starts[i] = order::start(r, node, &starts).0;
         findings[i] = Kept { finding };
     }
