@@ -10,6 +10,8 @@ use lib.Seq.{drop-drop, get_or-drop}
 use mir.Syntax.{w64}
 use mir.Val.{Fits}
 use borrow.Author.Tests.{lt-ltb, le-ltb}
+use Rattle.std.specs.Prelude.{Some, None, is_some}
+use Rattle.std.specs.Prelude as prelude
 use Rattle.lists.specs.Ascii.{ascii}
 use Rattle.lists.specs.Names.{same_bytes}
 use Rattle.lists.proofs.NameLaws.{same-decided}
@@ -23,14 +25,14 @@ use Rattle.texts.specs.Texts.{operands_behind}
 use Rattle.texts.specs.Numbers.{is_number}
 use Rattle.texts.specs.WordKinds.{behind_word, kind_named}
 use Rattle.texts.specs.Places.{separates, first_word, is_plain_name, index_in, is_declared, or_none, operands_of, behind_line, behind_var, names_in, Place, line, named, least, most, operand, done, onward, pending, allowed}
-use Rattle.texts.proofs.ScanLaws.{first-length, next-separates}
-use Rattle.words.specs.Operands.{counted}
+use Rattle.texts.proofs.ScanLaws.{first-length}
+use Rattle.words.specs.Operands.{behind_said, counted}
 use Rattle.words.proofs.Scanning.{word_over, word_more, line-over, line-more}
 use Rattle.scan.specs.declared.Phase.{Phase}
 use Rattle.scan.specs.declared.Phase.TheVariants.{Line, Named, Least, Most, Operand, Done}
 use Rattle.scan.specs.declared.Here.{Here}
 use Rattle.scan.specs.declared.Onward.{Onward}
-use Rattle.scan.specs.States.{place_in, place_at, word_at, end_at, behind_lines, LinesAt, Stands, to, nowhere, from_line, from_name, from_number, to_operand, from_count, from_operand, from_phase, onward_at, Went, Steps}
+use Rattle.scan.specs.States.{place_in, place_at, word_at, end_at, behind_lines, LinesAt, Stands, to, nowhere, from_line, from_name, from_number, to_operand, from_count, from_operand, from_phase, onward_at, Went, Stuck}
 
 -- ---- operands
 
@@ -43,73 +45,60 @@ shape-few (One s) = omega arith
 shape-few (Two s t) = omega arith
 shape-few (Three s t u) = omega arith
 
-abbrev or_else : Option ℕ → Bool → Option ℕ
-or_else o b = elim o [ some n ↦ some n | none ↦ or_none b ]
-
 pub few-operands : (names : List (List ℕ)) (w : List ℕ) → counted (operands_of names w) ≤ 4
 unfolding operands_of
 few-operands names w = go (behind_word w) (is_number w || is_declared names w) (shape-few (row (kind_named w)).shape)
   where
-    go : (o : Option ℕ) (b : Bool) → counted o ≤ 4 → counted (or_else o b) ≤ 4
+    go : (o : Option ℕ) (b : Bool) → counted o ≤ 4 → counted (elim o [ some n ↦ some n | none ↦ or_none b ]) ≤ 4
     go none true h = omega arith
     go none false h = omega arith
     go (some n) b h = h
 
 -- their count has room: the text has fewer than 2 ^ 63 bytes
-pub left-fits : (names : List (List ℕ)) (w : List ℕ) (n k size : ℕ) {b : ℕ} → b ≡ counted (operands_of names w) → n ≤ 2 * k → k < size → size * 1 < 9223372036854775808 → Fits w64 ((b - 1) + n)
-left-fits names w n k size e few l room = record { fits = omega (arith, few-operands names w) }
+pub left-fits : (names : List (List ℕ)) (w : List ℕ) (n k size : ℕ) {b : ℕ} → some b ≡ operands_of names w → n ≤ 2 * k → k < size → size * 1 < 9223372036854775808 → Fits w64 (b + n)
+left-fits names w n k size {b} e few l room =
+    let d : suc b ≤ 4 = subst (λ (o : Option ℕ). counted o ≤ 4) (sym e) (few-operands names w) in
+    record { fits = omega arith }
 
 names-length : (d : ℕ) (s : List ℕ) → length (names_in d s) ≡ d
 unfolding names_in
 names-length zero s = refl
 names-length (suc d) s = ap suc (names-length d (behind_line s))
 
-module _ (s : List ℕ) (d : ℕ) (w : List ℕ) {b : ℕ} (e : b ≡ counted (behind_word w)) where
-  pub operands-kind : 0 < b → b ≡ counted (operands_of (names_in d s) w)
+module _ (s : List ℕ) (d : ℕ) (w : List ℕ) where
+  pub operands-kind : (o : prelude.Option ℕ) → behind_said o ≡ behind_word w → is_some o ≡ true → behind_said o ≡ operands_of (names_in d s) w
   unfolding operands_of
-  operands-kind h = e ∙ go (behind_word w) (subst (λ (m : ℕ). 0 < m) e h)
+  operands-kind o e t = go o t (behind_word w) e
     where
-      go : (o : Option ℕ) → 0 < counted o → counted o ≡ counted (or_else o (is_number w || is_declared (names_in d s) w))
-      go none h = absurd (omega arith)
-      go (some n) h = refl
+      go : (o : prelude.Option ℕ) → is_some o ≡ true → (v : Option ℕ) → behind_said o ≡ v → behind_said o ≡ elim v [ some n ↦ some n | none ↦ or_none (is_number w || is_declared (names_in d s) w) ]
+      go None t v e = absurd (false≢true t)
+      go (Some n) t v e = e ∙ rw (sym e) refl
 
-  other : b ≤ 0 → (t : Bool) → is_number w || is_declared (names_in d s) w ≡ t → counted (or_none t) ≡ counted (operands_of (names_in d s) w)
+module _ (s : List ℕ) (d : ℕ) (w : List ℕ) (o : prelude.Option ℕ) (e : behind_said o ≡ behind_word w) (f : is_some o ≡ false) where
+  other : (t : Bool) → is_number w || is_declared (names_in d s) w ≡ t → or_none t ≡ operands_of (names_in d s) w
   unfolding operands_of
-  other h t q = go (behind_word w) (omega (arith, e))
+  other t q = go o f (behind_word w) e
     where
-      go : (o : Option ℕ) → counted o ≤ 0 → counted (or_none t) ≡ counted (or_else o (is_number w || is_declared (names_in d s) w))
-      go none h = ap (λ (x : Bool). counted (or_none x)) (sym q)
-      go (some n) h = absurd (omega arith)
+      go : (o : prelude.Option ℕ) → is_some o ≡ false → (v : Option ℕ) → behind_said o ≡ v → or_none t ≡ elim v [ some n ↦ some n | none ↦ or_none (is_number w || is_declared (names_in d s) w) ]
+      go None f none e = ap or_none (sym q)
+      go None f (some n) e = absurd (let z : ◌≡◌ {A = ℕ} 0 1 = cc in omega arith)
+      go (Some n) f v e = absurd (true≢false f)
 
-  module _ (h : b ≤ 0) {n : Bool} (f : n ≡ is_number w) where
-    pub operands-number : n ≡ true → 1 ≡ counted (operands_of (names_in d s) w)
-    operands-number t = other h true (rw (sym f ∙ t))
+  pub operands-number : {n : Bool} → n ≡ is_number w → n ≡ true → some 0 ≡ operands_of (names_in d s) w
+  operands-number g t = other true (rw (sym g ∙ t))
 
-    module _ {i : ℕ} (g : i ≡ index_in (names_in d s) w) (t : n ≡ false) where
-      pub operands-declared : i < d → 1 ≡ counted (operands_of (names_in d s) w)
-      unfolding is_declared
-      operands-declared l =
-          let m : index_in (names_in d s) w < length (names_in d s) = omega (arith, names-length d s) in
-          other h true (rw (sym f ∙ t, lt-ltb _ _ m))
+  module _ {n : Bool} {i : ℕ} (g : n ≡ is_number w) (h : i ≡ index_in (names_in d s) w) (t : n ≡ false) where
+    pub operands-declared : i < d → some 0 ≡ operands_of (names_in d s) w
+    unfolding is_declared
+    operands-declared l =
+        let m : index_in (names_in d s) w < length (names_in d s) = omega (arith, names-length d s) in
+        other true (rw (sym g ∙ t, lt-ltb _ _ m))
 
-      pub operands-none : d ≤ i → 0 ≡ counted (operands_of (names_in d s) w)
-      unfolding is_declared
-      operands-none l =
-          let m : length (names_in d s) ≤ index_in (names_in d s) w = omega (arith, names-length d s) in
-          other h false (rw (sym f ∙ t, le-ltb _ _ m))
-
--- with one more than the operands of a word
-pub count-last : (d n b : ℕ) → (b ≡ 0 → ⊥) → (b - 1) + n ≡ 0 → to 10 Done 0 d ≡ from_count d n b
-count-last d n zero h e = absurd (h refl)
-count-last d n (suc k) h e =
-    let q : 0 ≡ k + n = omega arith in
-    ap (to_operand d) q
-
-pub count-more : (d n b : ℕ) → (b ≡ 0 → ⊥) → ((b - 1) + n ≡ 0 → ⊥) → to 32 Operand ((b - 1) + n - 1) d ≡ from_count d n b
-count-more d n zero h m = absurd (h refl)
-count-more d n (suc k) h m =
-    let q : suc ((suc k - 1) + n - 1) ≡ k + n = omega arith in
-    ap (to_operand d) q
+    pub operands-none : d ≤ i → none ≡ operands_of (names_in d s) w
+    unfolding is_declared
+    operands-none l =
+        let m : length (names_in d s) ≤ index_in (names_in d s) w = omega (arith, names-length d s) in
+        other false (rw (sym g ∙ t, le-ltb _ _ m))
 
 -- ---- lines
 
@@ -169,13 +158,13 @@ line-ends (c ∷ t) e = go (separates c) refl (line-ends t)
 
 -- ---- where a word leads
 
--- r says what o does: nothing, or the separator and the next place; there the lines are told, and the counts have hardly grown
-pub data Agrees (s : List ℕ) (d n : ℕ) (t : List ℕ) (o : Option (words.Onward Place)) (r : Onward) : Type 0 where
-  no_way : o ≡ none → r.separator ≡ 0 → Agrees s d n t o r
-  way :
+-- the third says what o does: nothing, or the separator and the next place; there the lines are told, and the counts have hardly grown
+pub data Agrees (s : List ℕ) (d n : ℕ) (t : List ℕ) (o : Option (words.Onward Place)) : prelude.Option Onward → Type 0 where
+  no_way : o ≡ none → Agrees s d n t o None
+  way : {r : Onward} →
       o ≡ some (record { separator = r.separator; place = place_in (names_in r.declared s) r.phase r.pending }) →
       (byte_behind t ≡ r.separator → LinesAt r.phase r.declared s (behind_both t)) →
-      r.pending ≤ 2 + n → r.declared ≤ suc d → Agrees s d n t o r
+      r.pending ≤ 2 + n → r.declared ≤ suc d → Agrees s d n t o (Some r)
 
 module _ (s : List ℕ) (d n : ℕ) (t w : List ℕ) (e : w ≡ first_word t) where
   as_long : (v : List ℕ) → same_bytes v w ≡ true → word_length separates t ≡ length v
@@ -195,7 +184,7 @@ module _ (s : List ℕ) (d n : ℕ) (t w : List ℕ) (e : w ≡ first_word t) wh
           (omega arith)
           (omega arith)
       go false true h = way refl (λ q. tt) (omega arith) (omega arith)
-      go false false h = no_way refl refl
+      go false false h = no_way refl
 
   from-name : LinesAt Named d s t → Agrees s d n t (allowed (named (names_in d s)) w) (from_name d w)
   unfolding allowed
@@ -206,7 +195,7 @@ module _ (s : List ℕ) (d n : ℕ) (t w : List ℕ) (e : w ≡ first_word t) wh
 
       go : (b : Bool) → Agrees s d n t (elim b [ true ↦ onward 32 (least (names_in d s ++ (w ∷ []))) | false ↦ none ]) (cond b (to 32 Least 0 (suc d)) nowhere)
       go true = way (ap (λ (names : List (List ℕ)). onward 32 (least names)) more) (λ q. behind_more d s ∙ l.1 ∙ line-goes t q) (omega arith) (omega arith)
-      go false = no_way refl refl
+      go false = no_way refl
 
   from-least : LinesAt Least d s t → Agrees s d n t (allowed (least (names_in d s)) w) (from_number 32 Most d w)
   unfolding allowed
@@ -214,7 +203,7 @@ module _ (s : List ℕ) (d n : ℕ) (t w : List ℕ) (e : w ≡ first_word t) wh
     where
       go : (b : Bool) → Agrees s d n t (elim b [ true ↦ onward 32 (most (names_in d s)) | false ↦ none ]) (cond b (to 32 Most 0 d) nowhere)
       go true = way refl (λ q. l ∙ line-goes t q) (omega arith) (omega arith)
-      go false = no_way refl refl
+      go false = no_way refl
 
   from-most : LinesAt Most d s t → Agrees s d n t (allowed (most (names_in d s)) w) (from_number 10 Line d w)
   unfolding allowed
@@ -222,7 +211,7 @@ module _ (s : List ℕ) (d n : ℕ) (t w : List ℕ) (e : w ≡ first_word t) wh
     where
       go : (b : Bool) → Agrees s d n t (elim b [ true ↦ onward 10 (line (names_in d s)) | false ↦ none ]) (cond b (to 10 Line 0 d) nowhere)
       go true = way refl (λ q. l ∙ line-ends t q) (omega arith) (omega arith)
-      go false = no_way refl refl
+      go false = no_way refl
 
   from-operand : Agrees s d n t (allowed (operand (names_in d s) n) w) (from_operand s d n w)
   unfolding allowed
@@ -233,12 +222,12 @@ module _ (s : List ℕ) (d n : ℕ) (t w : List ℕ) (e : w ≡ first_word t) wh
       then (suc m) h = way refl (λ q. tt) (omega arith) (omega arith)
 
       go : (o : Option ℕ) → counted o ≤ 4 → Agrees s d n t (elim o [ none ↦ none | some k ↦ pending (names_in d s) (k + n) ]) (from_count d n (counted o))
-      go none h = no_way refl refl
+      go none h = no_way refl
       go (some k) h = then (k + n) (omega arith)
 
   from-done : Agrees s d n t (allowed done w) nowhere
   unfolding allowed
-  from-done = no_way refl refl
+  from-done = no_way refl
 
   pub agrees : (p : Phase) → LinesAt p d s t → Agrees s d n t (allowed (place_in (names_in d s) p n) w) (from_phase p s d n w)
   agrees Line l = from-line l
@@ -258,10 +247,10 @@ part-is s k {end} e =
     ap (λ (i : ℕ). take i (drop k s)) m
 
 module _ {s : List ℕ} {h : Here} (k : Stands s h) {end : ℕ} (e : end ≡ end_at s h) where
-  pub ahead-short : length s ≤ end → Steps s h h
-  ahead-short l = record { on = λ m. absurd (omega arith); off = λ m x i a q. absurd (omega arith) }
+  pub ahead-short : length s ≤ end → Stuck s h
+  ahead-short l x i a q = absurd (omega arith)
 
-  module _ {part : List ℕ} {r : Onward} (l : end < length s) (p : part ≡ take (end - h.start) (drop h.start s)) (f : r ≡ onward_at s h part) where
+  module _ {part : List ℕ} {o : prelude.Option Onward} (l : end < length s) (p : part ≡ take (end - h.start) (drop h.start s)) (f : o ≡ onward_at s h part) where
     word-is : part ≡ word_at s h
     word-is = p ∙ part-is s h.start e
 
@@ -273,36 +262,39 @@ module _ {s : List ℕ} {h : Here} (k : Stands s h) {end : ℕ} (e : end ≡ end
         let m : h.start + suc (word_length separates (drop h.start s)) ≡ end + 1 = omega arith in
         drop-drop (suc (word_length separates (drop h.start s))) h.start s ∙ ap (λ (i : ℕ). drop i s) m
 
-    told : Agrees s h.declared h.pending (drop h.start s) (allowed (place_at s h) (word_at s h)) r
+    told : Agrees s h.declared h.pending (drop h.start s) (allowed (place_at s h) (word_at s h)) o
     told =
         let a = agrees s h.declared h.pending (drop h.start s) (word_at s h) refl h.phase k.lines in
         subst (Agrees s h.declared h.pending (drop h.start s) (allowed (place_at s h) (word_at s h))) (sym (f ∙ ap (onward_at s h) word-is)) a
 
-    pub ahead-other : (r.separator ≡ get_or s end 0 → ⊥) → Steps s h h
-    ahead-other n = record { on = λ m. absurd (omega arith); off = λ m x i a q. go told x a (q ∙ ap (λ (j : ℕ). get_or s j 0) (sym e)) }
+    pub ahead-none : o ≡ None → Stuck s h
+    ahead-none n x i a q = go (subst (Agrees s h.declared h.pending (drop h.start s) (allowed (place_at s h) (word_at s h))) n told)
       where
-        go : Agrees s h.declared h.pending (drop h.start s) (allowed (place_at s h) (word_at s h)) r → (x : words.Onward Place) → allowed (place_at s h) (word_at s h) ≡ some x → x.separator ≡ get_or s end 0 → ⊥
-        go (no_way o z) x a q = silent o a
-        go (way o g few few-names) x a q = n (let d : r.separator ≡ x.separator = cc in d ∙ q)
+        go : Agrees s h.declared h.pending (drop h.start s) (allowed (place_at s h) (word_at s h)) None → ⊥
+        go (no_way v) = silent v a
 
-    pub ahead-next : r.separator ≡ get_or s end 0 → Steps s h (record { phase = r.phase; pending = r.pending; declared = r.declared; start = end + 1 })
-    ahead-next q = record { on = λ m. go told; off = λ m. absurd (omega arith) }
-      where
-        some_byte : get_or s end 0 ≡ 0 → ⊥
-        some_byte z =
-            let y = next-separates (place_at s h) s h.start {n = word_length separates (drop h.start s)} refl (let i : end_at s h < length s = omega arith in i) in
-            zero-joins (ap separates (sym z ∙ ap (λ (i : ℕ). get_or s i 0) e) ∙ y)
+    module _ {r : Onward} (t : o ≡ Some r) where
+      its : Agrees s h.declared h.pending (drop h.start s) (allowed (place_at s h) (word_at s h)) (Some r)
+      its = subst (Agrees s h.declared h.pending (drop h.start s) (allowed (place_at s h) (word_at s h))) t told
 
-        go : Agrees s h.declared h.pending (drop h.start s) (allowed (place_at s h) (word_at s h)) r → Went s h (record { phase = r.phase; pending = r.pending; declared = r.declared; start = end + 1 })
-        go (no_way o z) = absurd (some_byte (sym q ∙ z))
-        go (way o g few few-names) = record {
-          stands = record {
+      pub ahead-other : (r.separator ≡ get_or s end 0 → ⊥) → Stuck s h
+      ahead-other n x i a q = go its (q ∙ ap (λ (j : ℕ). get_or s j 0) (sym e))
+        where
+          go : Agrees s h.declared h.pending (drop h.start s) (allowed (place_at s h) (word_at s h)) (Some r) → x.separator ≡ get_or s end 0 → ⊥
+          go (way v g few few-names) z = n (let d : r.separator ≡ x.separator = cc in d ∙ z)
+
+      pub ahead-next : r.separator ≡ get_or s end 0 → Went s h (record { phase = r.phase; pending = r.pending; declared = r.declared; start = end + 1 })
+      ahead-next q = go its
+        where
+          go : Agrees s h.declared h.pending (drop h.start s) (allowed (place_at s h) (word_at s h)) (Some r) → Went s h (record { phase = r.phase; pending = r.pending; declared = r.declared; start = end + 1 })
+          go (way v g few few-names) = record {
+            stands = record {
+              inside = omega arith;
+              few-operands = omega (arith, k.few-operands);
+              few-names = omega (arith, k.few-names);
+              lines = subst (LinesAt r.phase r.declared s) rest-is (g (byte-is ∙ sym q));
+            };
             inside = omega arith;
-            few-operands = omega (arith, k.few-operands);
-            few-names = omega (arith, k.few-names);
-            lines = subst (LinesAt r.phase r.declared s) rest-is (g (byte-is ∙ sym q));
-          };
-          inside = omega arith;
-          behind = ap (λ (i : ℕ). i + 1) e;
-          word = o ∙ ap (λ (c : ℕ). some (record { separator = c; place = place_in (names_in r.declared s) r.phase r.pending })) (q ∙ ap (λ (i : ℕ). get_or s i 0) e);
-        }
+            behind = ap (λ (i : ℕ). i + 1) e;
+            word = v ∙ ap (λ (c : ℕ). some (record { separator = c; place = place_in (names_in r.declared s) r.phase r.pending })) (q ∙ ap (λ (i : ℕ). get_or s i 0) e);
+          }

@@ -10,6 +10,7 @@ use lib.ListN.{length, get_or, drop, length-drop}
 use mir.Syntax.{w64}
 use mir.Val.{Fits}
 use borrow.Author.Tests.{le-leb, lt-leb}
+use Rattle.std.specs.Prelude.{Result, Ok, Err}
 use Rattle.grammar.specs.Words.{word_length}
 use Rattle.grammar.specs.Words as words
 use Rattle.grammar.proofs.BeginLaws.{leaves-as}
@@ -21,10 +22,8 @@ use Rattle.texts.proofs.TextLaws.{text-lines}
 use Rattle.scan.specs.declared.Phase.{Phase}
 use Rattle.scan.specs.declared.Phase.TheVariants.{Line, Named, Least, Most, Operand, Done}
 use Rattle.scan.specs.declared.Here.{Here}
-use Rattle.scan.specs.declared.Scanned.{Scanned}
-use Rattle.scan.specs.declared.Scanned.TheVariants.{Whole, Stopped}
 use Rattle.scan.specs.Scanned.{ScanSays}
-use Rattle.scan.specs.States.{place_in, place_at, end_at, behind_lines, Stands, Steps, stop_of, is_done, stop_done, stop_at}
+use Rattle.scan.specs.States.{place_in, place_at, end_at, behind_lines, Stands, Went, Stuck, stop_of, is_done, stop_done, stop_at}
 
 -- ---- where there is no way on
 
@@ -67,9 +66,18 @@ module _ (p : Place) (s : List ℕ) (k : ℕ) {w : List ℕ} {r : ℕ} (e : w �
 
 -- ---- what the answer says
 
-says : (s : List ℕ) (r : Scanned) → place_of s ≡ stop_of r → ScanSays s r
-says s Whole e = (text-lines s).1 ((lines-exactly s).0 e)
-says s (Stopped p) e = (leaves-as text-lines s p).1 ((leaves-exactly s p).0 e)
+says : (s : List ℕ) (r : Result Unit ℕ) → place_of s ≡ stop_of r → ScanSays s r
+says s (Ok _) e = (text-lines s).1 ((lines-exactly s).0 e)
+says s (Err p) e = (leaves-as text-lines s p).1 ((leaves-exactly s p).0 e)
+
+-- at any place but behind the goal
+pub not-done : (p : Phase) → (p ≡ Done → ⊥) → is_done p ≡ false
+not-done Line n = refl
+not-done Named n = refl
+not-done Least n = refl
+not-done Most n = refl
+not-done Operand n = refl
+not-done Done n = absurd (n refl)
 
 -- ---- the loop
 
@@ -80,32 +88,26 @@ pub begin-stands : (s : List ℕ) → Stands s begin
 unfolding behind_lines
 begin-stands s = record { inside = omega arith; few-operands = omega arith; few-names = omega arith; lines = refl }
 
--- from h on the text is left where it is; g is a step on, if there is one
-pub record Scanning (s : List ℕ) (h g : Here) : Type 0 where
+-- from h on the text is left where it is
+pub record Scanning (s : List ℕ) (h : Here) : Type 0 where
   pub stands : Stands s h
-  pub steps : Steps s h g
   pub same : place_of s ≡ place_behind (place_at s h) h.start (drop h.start s)
 
-pub scanning-begin : {s : List ℕ} {g : Here} → Steps s begin g → Scanning s begin g
+pub scanning-begin : (s : List ℕ) → Scanning s begin
 unfolding names_in
-scanning-begin {s} t = record { stands = begin-stands s; steps = t; same = refl }
+scanning-begin s = record { stands = begin-stands s; same = refl }
 
-module _ {s : List ℕ} {h g : Here} (w : Scanning s h g) where
-  pub scanning-stands : h.start < g.start → Stands s g
-  scanning-stands l = (w.steps.on l).stands
+module _ {s : List ℕ} {h : Here} (w : Scanning s h) where
+  pub scanning-less : {g : Here} → Went s h g → length s - g.start < length s - h.start
+  scanning-less v = omega (arith, v.stands.inside, v.behind, v.inside)
 
-  pub scanning-less : h.start < g.start → length s - g.start < length s - h.start
-  scanning-less l = omega (arith, (scanning-stands l).inside)
-
-  pub scanning-turn : h.start < g.start → {f : Here} → Steps s g f → Scanning s g f
-  scanning-turn l {f} t =
-      let v = w.steps.on l in
+  pub scanning-turn : {g : Here} → Went s h g → Scanning s g
+  scanning-turn {g} v =
       let e : suc (end_at s h) ≡ g.start = omega (arith, v.behind) in
       record {
         stands = v.stands;
-        steps = t;
         same = w.same ∙ pass-at (place_at s h) s h.start refl v.inside v.word refl ∙ ap (λ (k : ℕ). place_behind (place_at s g) k (drop k s)) e;
       }
 
-  pub scanning-end : g.start ≤ h.start → (r : Scanned) → stop_of r ≡ stop_at s h → ScanSays s r
-  scanning-end l r e = says s r (w.same ∙ stop-in h.phase (names_in h.declared s) h.pending s h.start (w.steps.off l) ∙ sym e)
+  pub scanning-end : Stuck s h → (r : Result Unit ℕ) → stop_of r ≡ stop_at s h → ScanSays s r
+  scanning-end n r e = says s r (w.same ∙ stop-in h.phase (names_in h.declared s) h.pending s h.start n ∙ sym e)

@@ -1,5 +1,6 @@
 -- Follows the code: where a scan stands in a text, where the next word leads, and where it stops.
-use Rattle.std.specs.Prelude.{ℕ, zero, suc, ◌+◌, ◌*◌, ◌≤◌, ◌<◌, ◌≡◌, Bool, true, false, cond, List, leb, length, get_or, drop}
+use Rattle.std.specs.Prelude.{ℕ, zero, suc, ◌+◌, ◌*◌, ◌≤◌, ◌<◌, ◌≡◌, Bool, true, false, cond, List, leb, length, get_or, drop, Some, None, Result, Ok, Err}
+use Rattle.std.specs.Prelude as prelude
 use Rattle.std.proofs.Math.Option.{Option, none, some}
 use Rattle.lists.specs.Ascii.{ascii}
 use Rattle.lists.specs.Names.{same_bytes}
@@ -12,8 +13,6 @@ use Rattle.scan.specs.declared.Phase.{Phase}
 use Rattle.scan.specs.declared.Phase.TheVariants.{Line, Named, Least, Most, Operand, Done}
 use Rattle.scan.specs.declared.Here.{Here}
 use Rattle.scan.specs.declared.Onward.{Onward}
-use Rattle.scan.specs.declared.Scanned.{Scanned}
-use Rattle.scan.specs.declared.Scanned.TheVariants.{Whole, Stopped}
 
 -- ---- where it stands
 
@@ -57,35 +56,35 @@ pub record Stands (s : List ℕ) (h : Here) : Type 0 where
 
 -- ---- where a word leads
 
-abbrev pub to : ℕ → Phase → ℕ → ℕ → Onward
-to c p n d = record { separator = c; phase = p; pending = n; declared = d }
+abbrev pub to : ℕ → Phase → ℕ → ℕ → prelude.Option Onward
+to c p n d = Some (record { separator = c; phase = p; pending = n; declared = d })
 
-abbrev pub nowhere : Onward
-nowhere = to 0 Done 0 0
+abbrev pub nowhere : prelude.Option Onward
+nowhere = None
 
-abbrev pub from_line : ℕ → List ℕ → Onward
+abbrev pub from_line : ℕ → List ℕ → prelude.Option Onward
 from_line d w = cond (same_bytes (ascii "var") w) (to 32 Named 0 d) (cond (same_bytes (ascii "goal") w) (to 32 Operand 0 d) nowhere)
 
-abbrev pub from_name : ℕ → List ℕ → Onward
+abbrev pub from_name : ℕ → List ℕ → prelude.Option Onward
 from_name d w = cond (is_plain_name w) (to 32 Least 0 (suc d)) nowhere
 
 -- behind a number come this separator and this phase
-abbrev pub from_number : ℕ → Phase → ℕ → List ℕ → Onward
+abbrev pub from_number : ℕ → Phase → ℕ → List ℕ → prelude.Option Onward
 from_number c p d w = cond (is_number w) (to c p 0 d) nowhere
 
 -- with so many operands to come
-abbrev pub to_operand : ℕ → ℕ → Onward
+abbrev pub to_operand : ℕ → ℕ → prelude.Option Onward
 to_operand d zero = to 10 Done 0 d
 to_operand d (suc n) = to 32 Operand n d
 
-abbrev pub from_count : ℕ → ℕ → ℕ → Onward
+abbrev pub from_count : ℕ → ℕ → ℕ → prelude.Option Onward
 from_count d n zero = nowhere
 from_count d n (suc k) = to_operand d (k + n)
 
-abbrev pub from_operand : List ℕ → ℕ → ℕ → List ℕ → Onward
+abbrev pub from_operand : List ℕ → ℕ → ℕ → List ℕ → prelude.Option Onward
 from_operand s d n w = from_count d n (counted (operands_of (names_in d s) w))
 
-abbrev pub from_phase : Phase → List ℕ → ℕ → ℕ → List ℕ → Onward
+abbrev pub from_phase : Phase → List ℕ → ℕ → ℕ → List ℕ → prelude.Option Onward
 from_phase Line s d n w = from_line d w
 from_phase Named s d n w = from_name d w
 from_phase Least s d n w = from_number 32 Most d w
@@ -93,7 +92,7 @@ from_phase Most s d n w = from_number 10 Line d w
 from_phase Operand s d n w = from_operand s d n w
 from_phase Done s d n w = nowhere
 
-abbrev pub onward_at : List ℕ → Here → List ℕ → Onward
+abbrev pub onward_at : List ℕ → Here → List ℕ → prelude.Option Onward
 onward_at s h w = from_phase h.phase s h.declared h.pending w
 
 -- ---- a step
@@ -109,16 +108,16 @@ pub record Went (s : List ℕ) (h g : Here) : Type 0 where
 abbrev pub Stuck : List ℕ → Here → Type 0
 Stuck s h = (x : words.Onward Place) → end_at s h < length s → allowed (place_at s h) (word_at s h) ≡ some x → x.separator ≡ get_or s (end_at s h) 0 → ⊥
 
--- the start is another exactly where there is a way on
-pub record Steps (s : List ℕ) (h g : Here) : Type 0 where
-  pub on : h.start < g.start → Went s h g
-  pub off : g.start ≤ h.start → Stuck s h
+-- there is a way on, or none
+abbrev pub Steps : List ℕ → Here → prelude.Option Here → Type 0
+Steps s h (Some g) = Went s h g
+Steps s h None = Stuck s h
 
 -- ---- where it stops
 
-abbrev pub stop_of : Scanned → Option ℕ
-stop_of Whole = none
-stop_of (Stopped p) = some p
+abbrev pub stop_of : Result Unit ℕ → Option ℕ
+stop_of (Ok _) = none
+stop_of (Err p) = some p
 
 abbrev pub is_done : Phase → Bool
 is_done Line = false

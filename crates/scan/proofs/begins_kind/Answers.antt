@@ -1,6 +1,16 @@
--- `begins_kind` meets its contract: the names of its text are the kinds' words. Assumes nothing.
-use Rattle.scan.proofs.Beginnings.{kinds-begun}
+-- `begins_kind` meets its contract: the table's words are the kinds'. Assumes nothing.
+use Prim.Native.Nat.{ℕ}
+use mathlib.Core.Path.{refl, ap, ◌∙◌}
+use mathlib.Core.List.{List, map}
+use denote.Ref.{Bor}
+use Rattle.std.proofs.Common.{rules, tests}
+use Rattle.std.proofs.lemmas.Iterator.{YieldsList-from_slice}
+use Rattle.std.proofs.lemmas.Iterator.Search.{any_from_yields_List}
+use Rattle.texts.specs.Places.{beginning, begins_any}
+use Rattle.scan.proofs.Beginnings.{begun-any}
 use Rattle.scan.proofs.begins_kind.Goals as goal
 
 pub returns : goal.returns
-returns c = kinds-begun _ c.begins_declared.ensures
+returns c =
+    let u = c.args.bytes.now in
+    any_from_yields_List (λ w. beginning u w.now) _ _ c.any.result c.any.ensures.ran (YieldsList-from_slice _ refl) (λ x b q k. search (rules, tests)) ∙ begun-any u c.iter.result.rest.now ∙ ap (λ (ws : List (Bor (List ℕ))). begins_any (map (λ w. w.now) ws) u) c.iter.ensures.rest

@@ -1,6 +1,4 @@
 -- `reach` meets its contract. Invariant: k bytes of the word begin one. Assumes nothing.
-use Prim.Native.Nat.{◌-◌}
-use lib.ListN.{length}
 use Rattle.texts.specs.Places.{begins}
 use Rattle.scan.specs.States.{place_at}
 use Rattle.scan.proofs.Beginnings.{Reaching}
@@ -8,6 +6,3 @@ use Rattle.scan.proofs.reach.Given as goal
 
 abbrev pub invariant-loop-k : goal.invariant-loop-k
 invariant-loop-k l = Reaching (begins (place_at l.text l.here)) l.word l.k
-
-abbrev pub decreases-loop-k : goal.decreases-loop-k
-decreases-loop-k l = length l.word - l.k

@@ -4,7 +4,7 @@ use Rattle.scan.proofs.Leading.{part-is}
 use Rattle.scan.proofs.word_at.Goals as goal
 
 pub slice_bounds-result-end : goal.slice_bounds-result-end
-slice_bounds-result-end c = end-inside _ _ c.requires c.word_end-end.ensures
+slice_bounds-result-end c = end-inside _ _ c.requires c.word_end.ensures
 
 pub returns : goal.returns
-returns c = part-is _ _ c.word_end-end.ensures
+returns c = part-is _ _ c.word_end.ensures
