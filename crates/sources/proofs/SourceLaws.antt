@@ -8,11 +8,15 @@ use native.Mathlib.Omega.{arith}
 use borrow.Author.Tests.{le-leb}
 use lib.Dec.{leb}
 use lib.ListN.{length}
+use Rattle.std.specs.Prelude.{Result, Ok, Err, Some, None}
+use Rattle.std.specs.Prelude as prelude
 use Rattle.io.specs.Counts.{IsPrefixLen}
 use Rattle.lists.specs.Ascii.{ascii}
 use Rattle.lists.specs.First.{◌otherwise◌, first}
 use Rattle.lists.proofs.FirstLaws.{otherwise-some}
 use Rattle.refusals.specs.declared.Refusal.{Refusal}
+use Rattle.refusals.specs.declared.Refused.{Refused}
+use Rattle.refusals.specs.Causes.{refusal_of as told_as}
 use Rattle.refusals.specs.Said.{unless}
 use Rattle.refusals.specs.Rows.{row}
 use Rattle.refusals.proofs.SaidLaws.{unless-true}
@@ -24,16 +28,12 @@ use Rattle.reading.specs.Rows.{Row1, Row2, Row3, Row4, Row5, Row6, Row7, Row8, G
 use Rattle.grammar.specs.Begins.{Leaves}
 use Rattle.grammar.proofs.BeginLaws.{place_inside, no_member, one_place}
 use Rattle.room.specs.Room.{Wrote}
-use Rattle.room.specs.declared.Written.{Written}
-use Rattle.room.specs.declared.Written.TheVariants.{Done, Refused}
 use Rattle.room.specs.Written.{written_said, written_verdict, Fills}
 use Rattle.texts.specs.Expressions.{Draft, draft_sheet}
 use Rattle.texts.specs.Plain.{text_of}
 use Rattle.texts.specs.Texts.{Says, Text}
 use Rattle.pointing.specs.Pointing.{pointed_at, line_of, column_of}
 use Rattle.pointing.specs.Pointed.{pointed_said}
-use Rattle.pointing.specs.declared.Pointed.{Pointed}
-use Rattle.pointing.specs.declared.Pointed.TheVariants.{Nowhere, At}
 use Rattle.maker.specs.Rows.{Row4 as Row4d, Row9, draft_rows}
 use Rattle.maker.proofs.Exact.{draft-exactly, text-or-leaves}
 use Rattle.maker.specs.Makes.{draft_refusal, Makes}
@@ -73,35 +73,32 @@ draft-other limit d room e n =
     omega (arith, bounded-answer rows (draft-exactly limit d room) e)
 
 -- ---- what `make` tells about the text
-module _ {o : Option Refusal} {t before after : List ℕ} {a : Written} (w : Fills o t before a after) where
+module _ {o : Option Refusal} {t before after : List ℕ} {a : Result ℕ Refused} (w : Fills o t before a after) where
   verdict-refusal : (x : Option Refusal) → (written_verdict x t).0 ≡ x
   verdict-refusal none = refl
   verdict-refusal (some r) = refl
 
-  refusal_is : {q : Refusal} → a ≡ Refused q → o ≡ some q
+  refusal_is : {q : Refused} → a ≡ Err q → o ≡ some (told_as q)
   refusal_is d = sym (verdict-refusal o) ∙ ap (λ (x : Option Refusal × ℕ). x.0) (sym w.answer ∙ ap written_said d)
 
-module _ {text before after : List ℕ} {a : Written} (w : Makes most_nodes text before a after) where
-  pub refuses : {q : Refusal} → a ≡ Refused q → Refuses text q
+module _ {text before after : List ℕ} {a : Result ℕ Refused} (w : Makes most_nodes text before a after) where
+  pub refuses : {q : Refused} → a ≡ Err q → Refuses text (told_as q)
   refuses {q} d =
       ⊎_elim
       (λ t. said (draft-other most_nodes t.draft (length before) (refusal_is (w.said t.draft t.says) d)) t)
       (λ l.
-      let e : record { number = 18; place = l.0 } ≡ q = cc (refusal_is (w.off l.0 l.1) d) in
+      let e : record { number = 18; place = l.0 } ≡ told_as q = cc (refusal_is (w.off l.0 l.1) d) in
       off (sym (ap (λ (r : Refusal). r.number) e)) (subst (Leaves Text text) (ap (λ (r : Refusal). r.place) e) l.1))
       (text-or-leaves text)
 
-  made_counted : {n : ℕ} → a ≡ Done n → IsPrefixLen n after
+  made_counted : {n : ℕ} → a ≡ Ok n → IsPrefixLen n after
   made_counted d = ⊎_elim (λ t. counted (filled-written (w.said t.draft t.says) d)) (λ l. counted (filled-written (w.off l.0 l.1) d)) (text-or-leaves text)
 
-  none-counted : (s : List ℕ) → IsPrefixLen 0 s
-  none-counted s = (omega arith, refl)
+  pub sourced-sheet : {n : ℕ} (line : List ℕ) → a ≡ Ok n → Sourced most_nodes text before line (Ok n) after line × IsPrefixLen n after
+  sourced-sheet {n} line d = (record { answer = Ok n; makes = subst (λ (r : Result ℕ Refused). Makes most_nodes text before r after) d w; told = (refl, refl) }, made_counted d)
 
-  pub sourced-sheet : {n : ℕ} (line : List ℕ) → a ≡ Done n → Sourced most_nodes text before line (record { sheet = n; line = 0 }) after line × (IsPrefixLen n after × IsPrefixLen 0 line)
-  sourced-sheet {n} line d = (record { answer = Done n; makes = subst (λ (r : Written). Makes most_nodes text before r after) d w; told = (refl, refl, refl) }, (made_counted d, none-counted line))
-
-  pub sourced-line : {q : Refusal} {line line_after : List ℕ} {n : ℕ} → a ≡ Refused q → WrotePointed text q line line_after n → Sourced most_nodes text before line (record { sheet = 0; line = n }) after line_after × (IsPrefixLen 0 after × IsPrefixLen n line_after)
-  sourced-line {q} d g = (record { answer = Refused q; makes = subst (λ (r : Written). Makes most_nodes text before r after) d w; told = (refl, g) }, (none-counted after, counted g.wrote))
+  pub sourced-line : {q : Refused} {line line_after : List ℕ} {n : ℕ} → a ≡ Err q → WrotePointed text (told_as q) line line_after n → Sourced most_nodes text before line (Err n) after line_after × IsPrefixLen n line_after
+  sourced-line {q} d g = (record { answer = Err q; makes = subst (λ (r : Result ℕ Refused). Makes most_nodes text before r after) d w; told = g }, counted g.wrote)
 
 -- ---- where a refusal points
 module _ {text : List ℕ} {r : Refusal} where
@@ -123,16 +120,10 @@ module _ {text : List ℕ} {r : Refusal} where
   }
 
   -- ---- the line of it
-  module _ {a : Pointed} (w : PointsInside text r (pointed_said a)) {before after : List ℕ} {n : ℕ} where
-    pub wrote-nowhere : a ≡ Nowhere → Wrote (refusal_line r) before after 0 n → WrotePointed text r before after n
+  module _ {a : prelude.Option ℕ} (w : PointsInside text r (pointed_said a)) {before after : List ℕ} {n : ℕ} where
+    pub wrote-nowhere : a ≡ None → Wrote (refusal_line r) before after 0 n → WrotePointed text r before after n
     unfolding pointed_line
     wrote-nowhere d g = record { place = none; points = subst (Points text r) (ap pointed_said d) w.points; wrote = g }
-
-    pub wrote_at : {p : ℕ} → a ≡ At p → Wrote (pointed_line text r (some p)) before after 0 n → WrotePointed text r before after n
-    wrote_at {p} d g = record { place = some p; points = subst (Points text r) (ap pointed_said d) w.points; wrote = g }
-
-  pub place-inside-text : {a : Pointed} {p : ℕ} → PointsInside text r (pointed_said a) → a ≡ At p → p ≤ length text
-  place-inside-text {a} {p} w d = w.inside p (ap pointed_said d)
 
 -- the pieces of the line in order
 pub placed-from : (text : List ℕ) (r : Refusal) (p : ℕ) {line column : ℕ} → line ≡ line_of text p → column ≡ column_of text p → numbers_text (ascii "refused ") r.number (ascii " at ") r.place ++ (numbers_text (ascii " (line ") line (ascii " column ") column ++ ascii ")\n") ≡ pointed_line text r (some p)
@@ -152,14 +143,14 @@ module _ (s : List ℕ) where
       go (some r) e = otherwise-some _ e ∙ sym (otherwise-some _ e)
       go none e = ap (λ (o : Option Refusal). refusal_of most_nodes s otherwise first (word_refusal s) 0 (variable_count s) otherwise o) (last room h e ∙ sym (last longest_text (omega arith) e))
 
-  module _ {before after : List ℕ} (h : longest_text ≤ length before) {a : Written} (w : Prints most_nodes s before a after) where
+  module _ {before after : List ℕ} (h : longest_text ≤ length before) {a : Result ℕ Refused} (w : Prints most_nodes s before a after) where
     fills : Fills (text_refusal most_nodes s longest_text) (text_of (rule_in s)) before a after
     fills = subst (λ (o : Option Refusal). Fills o (text_of (rule_in s)) before a after) (text-refusal h) w
 
-    pub text-written : {n : ℕ} → a ≡ Done n → Wrote (text_answer most_nodes s) before after 0 n × IsPrefixLen n after
+    pub text-written : {n : ℕ} → a ≡ Ok n → Wrote (text_answer most_nodes s) before after 0 n × IsPrefixLen n after
     unfolding text_answer
     text-written d = let g = filled-written fills d in (g, counted g)
 
-    pub text-refused : {r : Refusal} → a ≡ Refused r → (after ≡ before) × (refusal_line r ≡ text_answer most_nodes s)
+    pub text-refused : {q : Refused} → a ≡ Err q → (after ≡ before) × (refusal_line (told_as q) ≡ text_answer most_nodes s)
     unfolding text_answer
     text-refused d = filled-refused fills d

@@ -1,11 +1,11 @@
 -- What the program says of a text (document 02, item 4): nothing where it makes a sheet, which is then answered for; else the refusal's line, and where it points.
-use Rattle.std.specs.Prelude.{ℕ, ◌+◌, ◌≡◌, List, ◌++◌, length}
+use Rattle.std.specs.Prelude.{ℕ, ◌+◌, ◌≡◌, List, ◌++◌, length, Result, Ok, Err}
 use Rattle.std.proofs.Math.Option.{Option, none, some}
 use Rattle.lists.specs.Ascii.{ascii}
 use Rattle.refusals.specs.declared.Refusal.{Refusal}
+use Rattle.refusals.specs.declared.Refused.{Refused}
+use Rattle.refusals.specs.Causes.{refusal_of}
 use Rattle.grammar.specs.Begins.{Leaves}
-use Rattle.room.specs.declared.Written.{Written}
-use Rattle.room.specs.declared.Written.TheVariants.{Done, Refused}
 use Rattle.room.specs.Room.{Wrote}
 use Rattle.texts.specs.Expressions.{Draft}
 use Rattle.texts.specs.Texts.{Says, Text}
@@ -13,7 +13,6 @@ use Rattle.pointing.specs.Pointing.{pointed_at, line_of, column_of}
 use Rattle.maker.specs.Makes.{Makes}
 use Rattle.phrases.specs.Phrases.{numbers_text, refusal_line}
 use Rattle.phrases.specs.Sizes.{longest_numbers, longest_refusal}
-use Rattle.sources.specs.declared.Source.{Source}
 
 -- where a refusal of the text points: bytes that are no text, at the place where they leave the texts; a text, by what it says
 pub record Points (text : List ℕ) (r : Refusal) (o : Option ℕ) : Type 0 where
@@ -35,12 +34,14 @@ pub record WrotePointed (text : List ℕ) (r : Refusal) (before after : List ℕ
   pub points : Points text r place
   pub wrote : Wrote (pointed_line text r place) before after 0 n
 
--- so many bytes of a sheet and none of a line, or the other way round
-abbrev pub Told : List ℕ → Written → List ℕ → Source → List ℕ → Type 0
-Told text (Done n) before r after = (r.sheet ≡ n) × (r.line ≡ 0) × (after ≡ before)
-Told text (Refused q) before r after = (r.sheet ≡ 0) × WrotePointed text q before after r.line
+-- the bytes of a sheet, and the line's room as it was; or those of the refusal's line
+abbrev pub Told : List ℕ → Result ℕ Refused → List ℕ → Result ℕ ℕ → List ℕ → Type 0
+Told text (Ok n) before (Ok k) after = (k ≡ n) × (after ≡ before)
+Told text (Ok n) before (Err k) after = ⊥
+Told text (Err e) before (Ok k) after = ⊥
+Told text (Err e) before (Err k) after = WrotePointed text (refusal_of e) before after k
 
-pub record Sourced (limit : ℕ) (text sheet line : List ℕ) (r : Source) (sheet_after line_after : List ℕ) : Type 0 where
-  pub answer : Written
+pub record Sourced (limit : ℕ) (text sheet line : List ℕ) (r : Result ℕ ℕ) (sheet_after line_after : List ℕ) : Type 0 where
+  pub answer : Result ℕ Refused
   pub makes : Makes limit text sheet answer sheet_after
   pub told : Told text answer line r line_after

@@ -1,10 +1,11 @@
 // What the program says of a text: its sheet, or the line of its refusal and where that points. And of a sheet: its text.
 #![tactic(auto)]
 
-ghost use Rattle.std.specs.Prelude.{◌≤◌, length};
+ghost use Rattle.std.specs.Prelude.{◌≤◌, length, IfOk, IfErr};
 ghost use Rattle.std.proofs.Math.Option.{some};
 ghost use Rattle.layout.specs.Limits.{most_nodes};
 ghost use Rattle.io.specs.Counts.{IsPrefixLen};
+ghost use Rattle.refusals.specs.Causes.{refusal_of};
 ghost use Rattle.room.specs.Room.{Wrote};
 ghost use Rattle.pointing.specs.Pointed.{pointed_said};
 ghost use Rattle.printer.specs.Prints.{longest_text};
@@ -12,32 +13,20 @@ ghost use Rattle.sources.specs.Sources.{pointed_line, longest_pointed, WrotePoin
 ghost use Rattle.sources.specs.Refusing.{Refuses, PointsInside};
 ghost use Rattle.sources.specs.Texts.{text_answer};
 
-use pointing::Pointed;
-use refusals::Refusal;
-use room::Written;
-
-// The bytes of a sheet, or those of a line; none of the other.
-#[derive(Clone, Copy)]
-pub struct Source {
-    pub sheet: usize,
-    pub line: usize,
-}
+use refusals::{Cause, Refusal, Refused};
 
 // A room of so many bytes is enough for the line of every refusal of a text.
 pub const LONGEST_LINE: usize = 111;
 
-// The refusal of bytes that are no text: its place is where they leave the texts.
-const NO_TEXT: u16 = 18;
-
 // Where a refusal of the text points.
-fn place_of(text: &[u8], refusal: Refusal) -> Pointed
-    requires { Refuses text.now refusal }
-    ensures { PointsInside text.now refusal (pointed_said result) }
+fn place_of(text: &[u8], refused: Refused) -> Option<usize>
+    requires { Refuses text.now (refusal_of refused) }
+    ensures { PointsInside text.now (refusal_of refused) (pointed_said result) }
 {
-    if refusal.number == NO_TEXT {
-        return Pointed::At(refusal.place);
+    match refused.cause {
+        Cause::Text => Some(refused.place),
+        _ => pointing::point(text, refused.into()),
     }
-    pointing::point(text, refusal)
 }
 
 // The line of a refusal that points at a place.
@@ -54,35 +43,27 @@ fn placed_line(text: &[u8], refusal: Refusal, place: usize, line: &mut [u8]) -> 
 }
 
 // The line of a refusal, at the front of the room.
-fn refused_line(text: &[u8], refusal: Refusal, line: &mut [u8]) -> usize
-    requires { Refuses text.now refusal × (longest_pointed ≤ length line.old) }
-    ensures { WrotePointed text.now refusal line.old line.new result }
+fn refused_line(text: &[u8], refused: Refused, line: &mut [u8]) -> usize
+    requires { Refuses text.now (refusal_of refused) × (longest_pointed ≤ length line.old) }
+    ensures { WrotePointed text.now (refusal_of refused) line.old line.new result }
 {
-    match place_of(text, refusal) {
-        Pointed::Nowhere => phrases::refused_line(line, refusal),
-        Pointed::At(place) => placed_line(text, refusal, place, line),
+    match place_of(text, refused) {
+        None => phrases::refused_line(line, refused.into()),
+        Some(place) => placed_line(text, refused.into(), place, line),
     }
 }
 
-// The sheet of a text at the front of its room, or the refusal's line at the front of the other.
-pub fn sheet_of(text: &[u8], sheet: &mut [u8], line: &mut [u8]) -> Source
+// The bytes of a text's sheet, at the front of its room; where it is refused, those of the refusal's line, at the front of the other.
+pub fn sheet_of(text: &[u8], sheet: &mut [u8], line: &mut [u8]) -> Result<usize, usize>
     requires { longest_pointed ≤ length line.old }
     ensures sourced { Sourced most_nodes text.now sheet.old line.old result sheet.new line.new }
-    ensures sheet_prefix { IsPrefixLen result.sheet sheet.new }
-    ensures line_prefix { IsPrefixLen result.line line.new }
+    ensures sheet_prefix { IfOk result (λ n. IsPrefixLen n sheet.new) }
+    ensures line_prefix { IfErr result (λ n. IsPrefixLen n line.new) }
 {
+    // No `map_err`: its closure would hold the line's room, and the contract learns what that leaves there only through the closure.
     match maker::make(text, sheet) {
-        Written::Done(size) => Source {
-            sheet: size,
-            line: 0,
-        },
-        Written::Refused(refusal) => {
-            let size = refused_line(text, refusal, line);
-            Source {
-                sheet: 0,
-                line: size,
-            }
-        }
+        Ok(size) => Ok(size),
+        Err(refused) => Err(refused_line(text, refused, line)),
     }
 }
 
@@ -93,7 +74,7 @@ pub fn text_answer(sheet: &[u8], room: &mut [u8]) -> usize
     ensures prefix_len { IsPrefixLen result room.new }
 {
     match printer::print(sheet, room) {
-        Written::Done(size) => size,
-        Written::Refused(refusal) => phrases::refused_line(room, refusal),
+        Ok(size) => size,
+        Err(refused) => phrases::refused_line(room, refused.into()),
     }
 }

@@ -3,16 +3,16 @@ use native.Mathlib.Omega.{arith}
 use Rattle.sources.proofs.SourceLaws.{refuses, sourced-sheet, sourced-line}
 use Rattle.sources.proofs.sheet_of.Goals as goal
 
-pub refused_line-size-requires : goal.refused_line-size-requires
-refused_line-size-requires c =
-    (refuses c.make.ensures c.in-Refused.is, omega arith)
+pub refused_line-requires : goal.refused_line-requires
+refused_line-requires c =
+    (refuses c.make.ensures c.in-Err.is, omega arith)
 
-pub returns-in-Done : goal.returns-in-Done
-returns-in-Done c =
-    let w = sourced-sheet c.make.ensures c.args.line.now c.in-Done.is in
-    record { sourced = w.0; sheet_prefix = w.1.0; line_prefix = w.1.1 }
+pub returns-in-Ok : goal.returns-in-Ok
+returns-in-Ok c =
+    let w = sourced-sheet c.make.ensures c.args.line.now c.in-Ok.is in
+    record { sourced = w.0; sheet_prefix = w.1; line_prefix = tt }
 
-pub returns-in-Refused : goal.returns-in-Refused
-returns-in-Refused c =
-    let w = sourced-line c.make.ensures c.in-Refused.is c.refused_line-size.ensures in
-    record { sourced = w.0; sheet_prefix = w.1.0; line_prefix = w.1.1 }
+pub returns-in-Err : goal.returns-in-Err
+returns-in-Err c =
+    let w = sourced-line c.make.ensures c.in-Err.is c.refused_line.ensures in
+    record { sourced = w.0; sheet_prefix = tt; line_prefix = w.1 }

@@ -3,12 +3,12 @@ use Rattle.answers.proofs.AnswerLaws.{counted, wrote-from}
 use Rattle.sources.proofs.SourceLaws.{text-written, text-refused}
 use Rattle.sources.proofs.text_answer.Goals as goal
 
-pub returns-in-Done : goal.returns-in-Done
-returns-in-Done c =
-    let w = text-written _ c.requires c.print.ensures c.in-Done.is in
+pub returns-in-Ok : goal.returns-in-Ok
+returns-in-Ok c =
+    let w = text-written _ c.requires c.print.ensures c.in-Ok.is in
     record { wrote = w.0; prefix_len = w.1 }
 
-pub returns-in-Refused : goal.returns-in-Refused
-returns-in-Refused c =
-    let w = wrote-from (text-refused _ c.requires c.print.ensures c.in-Refused.is) c.refused_line.ensures in
+pub returns-in-Err : goal.returns-in-Err
+returns-in-Err c =
+    let w = wrote-from (text-refused _ c.requires c.print.ensures c.in-Err.is) (rw c.into.ensures at c.refused_line.ensures) in
     record { wrote = w; prefix_len = counted w }
