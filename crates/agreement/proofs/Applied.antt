@@ -144,7 +144,7 @@ module _ {s other : List ℕ} {held_cases failed_cases : ℕ} {first_case : Opti
   enough : (room : List ℤ) → length room ≡ 3 → variable_count s ≤ length room
   enough room l = omega (arith, two-variables)
 
-  pub tally-is : Tallies most_nodes s (record { reading = accepted; held = held_cases; failed = failed_cases })
+  pub tally-is : Tallies most_nodes s (Ok (record { held = held_cases; failed = failed_cases }))
   tally-is = let e = tallied sheet few-cases in record { answer = sym e; held-count = rw (e, fact (λ (x : Facts). x.held-cases)); failed-count = rw (e, fact (λ (x : Facts). x.failed-cases)) }
 
   -- ---- the promises about a sheet and its script
@@ -305,13 +305,13 @@ spelled-A : SpellsCase 2 reply_a (pos 0 ∷ pos 1 ∷ [])
 unfolding dec symbol_text hex_text hex_digit
 spelled-A = record { setting = 0 ∷ 1 ∷ []; spelled = spells-setting (0 ∷ 1 ∷ []) (refl, (refl, tt)); case = refl }
 
-pub believed-A : Replies most_nodes sheet_a reply_a believed
+pub believed-A : Replies most_nodes sheet_a reply_a (Ok believed)
 believed-A = (replies-believed sheet_a (sheet computed_a (lit≤ tt)) reply_a).1 (pos 0 ∷ pos 1 ∷ [], first-A.failing, spelled-A)
 
 pub satisfies-A : (models : Bool) → (t : List ℕ) × Satisfies (script (sixteen models) (rule_in sheet_a)) t × SpellsSetting 2 reply_a t
 satisfies-A models = (replies-satisfy models sheet_a (sheet computed_a (lit≤ tt)) reply_a).0 believed-A
 
-pub none-believed-11 : (reply : List ℕ) → Replies most_nodes sheet11 reply believed → ⊥
+pub none-believed-11 : (reply : List ℕ) → Replies most_nodes sheet11 reply (Ok believed) → ⊥
 none-believed-11 reply h = let w = (replies-satisfy true sheet11 (sheet computed11 (lit≤ tt)) reply).0 h in unsatisfiable-11 true w.0 w.1
 
 -- the digits of its second value

@@ -166,7 +166,7 @@ made-short-A = made-room-enough text_a draft_a says-A (lit≤ tt) (lit≤ tt)
 pub text-again-A : (room left : List ℕ) (r : Result ℕ Refused) → 54 ≤ length room → Prints most_nodes (take 1024 (sheet_a ++ (0 ∷ []))) room r left → (r ≡ Ok 54) × (take 54 left ≡ text_a)
 text-again-A = text-sheet-text text_a sheet-room _ 1024 makes-A
 
-pub sheet-again-A : (n : ℕ) × (Ok 54 ≡ Ok n) × ((room left : List ℕ) (t : Result ℕ Refused) → 1024 ≤ length room → Makes most_nodes (take n (text_a ++ (0 ∷ []))) room t left → (t ≡ Ok 1024) × (take 1024 left ≡ sheet_a))
+pub sheet-again-A : (n : ℕ) × (◌≡◌ {A = Result ℕ Refused} (Ok 54) (Ok n)) × ((room left : List ℕ) (t : Result ℕ Refused) → 1024 ≤ length room → Makes most_nodes (take n (text_a ++ (0 ∷ []))) room t left → (t ≡ Ok 1024) × (take 1024 left ≡ sheet_a))
 sheet-again-A = sheet-text-sheet sheet_a sheet-A no-words-A text-room _ (Ok 54) text-fits-A prints-A
 
 pub made-A : (before after : List ℕ) (r : Result ℕ Refused) → 1024 ≤ length before → Makes most_nodes text_a before r after → (r ≡ Ok 1024) × (take 1024 after ≡ sheet_a)

@@ -5,6 +5,7 @@ use mathlib.Core.List.{List, [], ◌∷◌, map}
 use borrow.Author.Tests.{ltb-true}
 use lib.Dec.{lit≤}
 use lib.IntN.{ℤ}
+use Rattle.std.specs.Prelude.{Ok}
 use Rattle.numbers.specs.Two.{enc, dec}
 use Rattle.numbers.proofs.Coding.{enc-dec, decs-encs}
 use Rattle.layout.specs.Limits.{most_nodes}

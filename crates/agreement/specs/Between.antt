@@ -1,8 +1,7 @@
 -- Between crates: of each public function whose `ensures` is no mere equation, no second answer and no second room fits the predicate that it names.
 -- The calls themselves have this in `Statements`: `OneAnswer`.
-use Rattle.std.specs.Prelude.{Result, Ok, Err}
 use Rattle.refusals.specs.declared.Refused.{Refused}
-use Rattle.std.specs.Prelude.{ℕ, ◌≡◌, Bool, List, ℤ}
+use Rattle.std.specs.Prelude.{ℕ, ◌≡◌, Bool, List, ℤ, Result, Ok, Err}
 use Rattle.std.proofs.Math.Option.{Option}
 use Rattle.std.specs.Borrow.{Bor}
 use Rattle.lists.specs.Part.{PartAt, SamePart}
@@ -12,10 +11,8 @@ use Rattle.refusals.specs.declared.Refusal.{Refusal}
 use Rattle.refusals.specs.Said.{said_of}
 use Rattle.room.specs.Room.{Wrote}
 use Rattle.lines.specs.Lines.{LinesSize}
-use Rattle.replies.specs.declared.Reached.{Reached}
 use Rattle.replies.specs.Answers.{Answers}
 use Rattle.digits.specs.Ready.{Numbered}
-use Rattle.scan.specs.declared.Scanned.{Scanned}
 use Rattle.scan.specs.Scanned.{ScanSays}
 use Rattle.building.specs.declared.Built.{Built}
 use Rattle.building.specs.Building.{Buildable, Builds}
@@ -29,9 +26,9 @@ pub record OneBetween : Type 0 where
   pub advance : (domains : ℕ → Range) (v : ℕ) (old x y : List ℤ) (r t : Bool) → Advanced domains v old r x → Advanced domains v old t y → (r ≡ t) × (x ≡ y)
   pub writes : (text before x y : List ℕ) (at m n : ℕ) → Wrote text before x at m → Wrote text before y at n → (m ≡ n) × (x ≡ y)
   pub lines : (n x y : ℕ) → LinesSize n x → LinesSize n y → x ≡ y
-  pub reach : (v : ℕ) (reply : List ℕ) (r t : Reached) → Answers v reply r → Answers v reply t → r ≡ t
+  pub reach : (v : ℕ) (reply : List ℕ) (r t : Result Unit ℕ) → Answers v reply r → Answers v reply t → r ≡ t
   pub numbers : (v : ℕ) (reply : List ℕ) (before x y : List ℤ) → Numbered v reply before x → Numbered v reply before y → x ≡ y
-  pub scan : (text : List ℕ) (r t : Scanned) → ScanSays text r → ScanSays text t → r ≡ t
+  pub scan : (text : List ℕ) (r t : Result Unit ℕ) → ScanSays text r → ScanSays text t → r ≡ t
   pub build :
       (text : List ℕ) (count at size first : ℕ) (before x y : List ℕ) (r t : Built) →
       Buildable text count at size first → Builds text count at first before r x → Builds text count at first before t y → (r ≡ t) × (x ≡ y)

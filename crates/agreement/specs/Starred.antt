@@ -1,10 +1,9 @@
 -- The worked check and the starred cases of document 01, "Cases at each edge", in its order: one table. A row is a whole sheet's bytes and what the calls
 -- answer of it, with their lent rooms before and afterwards; each answer is held to the predicate that the call's contract states.
-use Rattle.std.specs.Prelude.{Result, Ok, Err}
 use Rattle.refusals.specs.declared.Cause.{Cause}
 use Rattle.refusals.specs.declared.Cause.TheVariants.{Counts, Range as Range-cause}
 use Rattle.refusals.specs.declared.Refused.{Refused}
-use Rattle.std.specs.Prelude.{ℕ, ◌+◌, ◌-◌, ◌*◌, ◌≡◌, true, false, cond, List, [], ◌∷◌, ◌++◌, eqb, ltb, ℤ, pos, negsuc, length, replicate}
+use Rattle.std.specs.Prelude.{ℕ, ◌+◌, ◌-◌, ◌*◌, ◌≡◌, true, false, cond, List, [], ◌∷◌, ◌++◌, eqb, ltb, ℤ, pos, negsuc, length, replicate, Result, Ok, Err}
 use Prim.Native.String.{String}
 use Rattle.lists.specs.Ascii.{ascii}
 use Rattle.lists.specs.Joined.{joined}

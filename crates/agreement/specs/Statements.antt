@@ -1,9 +1,8 @@
 -- The promises over the whole, a definition each, in the order of the demands. Each is proved under its name in `proofs/Proved`, and its premises are met
 -- in `proofs/Applied`. What each call answers stands beside it: `refusal_of`, `NamePart`, `BlockPart`, `Checks`, `Tallies`, `Writes`, `Replies`, `DigitsPart`,
 -- `capi/specs/Codes`.
-use Rattle.std.specs.Prelude.{Result, Ok, Err}
 use Rattle.refusals.specs.declared.Refused.{Refused}
-use Rattle.std.specs.Prelude.{ℕ, ◌+◌, ◌/◌, ◌≤◌, ◌<◌, ◌≡◌, Bool, true, false, ◌↔◌, ◌⊎◌, ℤ, length, set, take, drop}
+use Rattle.std.specs.Prelude.{ℕ, ◌+◌, ◌/◌, ◌≤◌, ◌<◌, ◌≡◌, Bool, true, false, ◌↔◌, ◌⊎◌, ℤ, length, set, take, drop, Result, Ok, Err}
 use mathlib.Core.List.{List, map, Memᴰ}
 use Rattle.std.proofs.Math.Option.{some}
 use Rattle.std.specs.Borrow.{Bor}
@@ -38,7 +37,7 @@ use Rattle.cases.specs.declared.Verdict.{Verdict}
 use Rattle.cases.specs.declared.Verdict.TheVariants.{Holds, Fails}
 use Rattle.cases.specs.declared.Tallied.{Tallied}
 use Rattle.cases.specs.Checks.{try_refusal, check_refusal, Checks}
-use Rattle.cases.specs.Tallies.{Tallies}
+use Rattle.cases.specs.Tallies.{failed_said, Tallies}
 use Rattle.cases.specs.Rows.{tally_rows, check_rows}
 use Rattle.smtlib.specs.Tokens.{digit_value}
 use Rattle.smtlib.specs.Values.{bit_vec}

@@ -4,19 +4,13 @@ use mathlib.Core.Path.{◌≡◌, refl, ap, ◌∙◌}
 use mathlib.Core.Bool.{Bool, true, false}
 use mathlib.Core.List.{List, [], ◌∷◌}
 use native.Mathlib.Omega.{arith}
-use lib.IntN.{ℤ}
 use lib.ListN.{length}
-use mir.Syntax.{w16}
-use mir.Val.{to_z, of_z}
-use mir.Facts.{to_z-of_z}
 use Rattle.lists.specs.Names.{same_bytes}
 use Rattle.numbers.specs.Two.{enc}
-use Rattle.numbers.proofs.Fit.{i16-of-narrow}
 use Rattle.kinds.specs.declared.Kind.{Kind}
 use Rattle.kinds.specs.declared.Record.{Record}
 use Rattle.layout.specs.Nodes.{node}
 use Rattle.texts.specs.Numbers.{is_number, number_of}
-use Rattle.texts.proofs.NumberLaws.{is-number}
 use Rattle.texts.specs.Places.{index_in, names_in}
 use Rattle.building.specs.Building.{leaf_record}
 
@@ -36,10 +30,6 @@ names-number (suc n) s = ap suc (names-number n _)
 
 pub index-most : (n : ℕ) (s w : List ℕ) → index_in (names_in n s) w ≤ n
 index-most n s w = omega (arith, index_below (names_in n s) w, names-number n s)
-
--- the bits of the value, as the machine keeps it between two calls
-pub constant-is : (w : List ℕ) → is_number w ≡ true → {z : ℤ} → z ≡ number_of w → {b : ℕ} → b ≡ enc 16 (to_z w16 (of_z w16 z)) → node Kind.Constant 0 0 0 b ≡ node Kind.Constant 0 0 0 (enc 16 (number_of w))
-constant-is w h e d = ap (node Kind.Constant 0 0 0) (d ∙ rw e (ap (enc 16) (to_z-of_z (i16-of-narrow (is-number w h).0))))
 
 pub leaf-number : (names : List (List ℕ)) (w : List ℕ) {r : Record} → is_number w ≡ true → r ≡ node Kind.Constant 0 0 0 (enc 16 (number_of w)) → r ≡ leaf_record names w
 unfolding leaf_record

@@ -111,6 +111,8 @@ pub fn build(text: &[u8], count: usize, at: usize, sheet: &mut [u8], node: usize
     }
 }
 
+// A function for each number of operands, since specs/Building says of each what it asks and what it builds.
+
 // A kind with one operand, which stands there.
 #[cycle(build_one_three_two)]
 fn one(text: &[u8], count: usize, kind: Kind, at: usize, sheet: &mut [u8], node: usize) -> Built

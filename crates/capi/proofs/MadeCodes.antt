@@ -117,7 +117,7 @@ decided : (a : Result ℕ Refused) (o : Option Refusal) (t : List ℕ) → writt
 decided (Ok n) none t e short numbered = let d : n ≡ length t = ap (λ (x : Option Refusal × ℕ). x.1) e in omega (arith, short refl)
 decided (Ok n) (some q) t e short numbered = absurd (let z : ◌≡◌ {A = ℕ} 0 1 = cc (ap (λ (x : Option Refusal × ℕ). x.0) e) in omega arith)
 decided (Err r) none t e short numbered = absurd (let z : ◌≡◌ {A = ℕ} 0 1 = cc (ap (λ (x : Option Refusal × ℕ). x.0) e) in omega arith)
-decided (Err r) (some q) t e short numbered = let d : told_as r ≡ q = cc (ap (λ (x : Option Refusal × ℕ). x.0) e) in rw d (numbered q refl)
+decided (Err r) (some q) t e short numbered = let d : told_as r ≡ q = cc (ap (λ (x : Option Refusal × ℕ). x.0) e) in let k : (told_as r).number ≡ q.number = ap (λ (x : Refusal). x.number) d in rw k (numbered q refl)
 
 makes-tellable : {text before after : List ℕ} {a : Result ℕ Refused} → Makes most_nodes text before a after → Tellable a
 makes-tellable {text} {before} {after} {a} h = go (text-or-leaves text)

@@ -26,7 +26,7 @@ use Rattle.header.proofs.HeaderLaws.{node-inside}
 use Rattle.reading.specs.Cascade.{refusal_of}
 use Rattle.reading.proofs.RuleLaws.{accepted-counted, accepted-sound}
 use Rattle.room.specs.Room.{Wrote}
-use Rattle.room.proofs.RoomLaws.{wrote_as, chain, chain3, chain4}
+use Rattle.room.proofs.RoomLaws.{wrote_as, chain}
 use Rattle.spelling.proofs.WordLaws.{plain-short}
 use Rattle.spelling.proofs.NumberLaws.{value-short}
 use Rattle.expressions.specs.Phrases.{AcceptedNode, AcceptedVariable, call1, call2, call3, phrase_by, phrase_step, word_by, sheet_names, phrase_at, word_at, words_bytes}
@@ -46,16 +46,11 @@ length-3 w a b c = simp length-append (omega arith)
 pub wrote_one : {w a r₀ r₁ r₂ : List ℕ} {p q : ℕ} → length (call1 w a) ≤ length r₀ → Wrote w r₀ r₁ 0 p → Wrote (ascii " " ++ a) r₁ r₂ p q → Wrote (call1 w a) r₀ r₂ 0 q
 wrote_one {w} {a} h x y = chain (omega (arith, length-1 w a)) x y
 
-pub wrote-two : {w a b r₀ r₁ r₂ r₃ : List ℕ} {p q r : ℕ} → length (call2 w a b) ≤ length r₀ → Wrote w r₀ r₁ 0 p → Wrote (ascii " " ++ a) r₁ r₂ p q → Wrote (ascii " " ++ b) r₂ r₃ q r
-    → Wrote (call2 w a b) r₀ r₃ 0 r
-wrote-two {w} {a} {b} h x y z = wrote_as (chain3 (omega (arith, length-2 w a b)) x y z) (simp append_assoc)
+pub wrote-two : (w a b : List ℕ) {r₀ r₁ r₂ : List ℕ} {p q : ℕ} → length (call2 w a b) ≤ length r₀ → Wrote (call1 w a) r₀ r₁ 0 p → Wrote (ascii " " ++ b) r₁ r₂ p q → Wrote (call2 w a b) r₀ r₂ 0 q
+wrote-two w a b h x y = wrote_as (chain (omega (arith, length-1 w a, length-2 w a b)) x y) (simp append_assoc)
 
-flat : (w y a z b u c : List ℕ) → w ++ (y ++ a) ++ (z ++ b) ++ (u ++ c) ≡ w ++ (y ++ (a ++ (z ++ (b ++ (u ++ c)))))
-flat w y a z b u c = simp append_assoc
-
-pub wrote-three : {w a b c r₀ r₁ r₂ r₃ r₄ : List ℕ} {p q r t : ℕ} → length (call3 w a b c) ≤ length r₀ → Wrote w r₀ r₁ 0 p → Wrote (ascii " " ++ a) r₁ r₂ p q → Wrote (ascii " " ++ b) r₂ r₃ q r
-    → Wrote (ascii " " ++ c) r₃ r₄ r t → Wrote (call3 w a b c) r₀ r₄ 0 t
-wrote-three {w} {a} {b} {c} h x y z u = wrote_as (chain4 (omega (arith, length-3 w a b c)) x y z u) (flat w (ascii " ") a (ascii " ") b (ascii " ") c)
+pub wrote-three : (w a b c : List ℕ) {r₀ r₁ r₂ : List ℕ} {p q : ℕ} → length (call3 w a b c) ≤ length r₀ → Wrote (call2 w a b) r₀ r₁ 0 p → Wrote (ascii " " ++ c) r₁ r₂ p q → Wrote (call3 w a b c) r₀ r₂ 0 q
+wrote-three w a b c h x y = wrote_as (chain (omega (arith, length-2 w a b, length-3 w a b c)) x y) (simp append_assoc)
 
 -- the text of a node of shape h with the record r, where g has the texts of the nodes
 abbrev pub by_shape : List ℕ → (h : Shape) → Record → (ℕ → List ℕ) → List ℕ

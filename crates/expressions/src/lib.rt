@@ -75,34 +75,28 @@ fn one(sheet: &[u8], fields: Record, room: &mut [u8]) -> usize
     requires { AcceptedNode sheet.now fields.a × (length (one_text sheet.now fields) ≤ length room.old) }
     ensures { Wrote (one_text sheet.now fields) room.old room.new 0 result }
 {
-    let kind = fields.kind;
-    let p = spelling::put_word(room, 0, kind);
-    operand(sheet, NodeNumber(fields.a), room, p)
+    let next = spelling::put_word(room, 0, fields.kind);
+    operand(sheet, NodeNumber(fields.a), room, next)
 }
 
-// The text of a node with two operands.
+// The text of a node with two operands: as with the first alone, and the second.
 #[cycle(one_operand_phrase_three_two)]
 fn two(sheet: &[u8], fields: Record, room: &mut [u8]) -> usize
     requires { AcceptedNode sheet.now fields.a × AcceptedNode sheet.now fields.b × (length (two_text sheet.now fields) ≤ length room.old) }
     ensures { Wrote (two_text sheet.now fields) room.old room.new 0 result }
 {
-    let kind = fields.kind;
-    let p = spelling::put_word(room, 0, kind);
-    let q = operand(sheet, NodeNumber(fields.a), room, p);
-    operand(sheet, NodeNumber(fields.b), room, q)
+    let next = one(sheet, fields, room);
+    operand(sheet, NodeNumber(fields.b), room, next)
 }
 
-// The text of a node with three operands.
+// The text of a node with three operands: as with the first two, and the third.
 #[cycle(one_operand_phrase_three_two)]
 fn three(sheet: &[u8], fields: Record, room: &mut [u8]) -> usize
     requires { AcceptedNode sheet.now fields.a × AcceptedNode sheet.now fields.b × AcceptedNode sheet.now fields.c × (length (three_text sheet.now fields) ≤ length room.old) }
     ensures { Wrote (three_text sheet.now fields) room.old room.new 0 result }
 {
-    let kind = fields.kind;
-    let p = spelling::put_word(room, 0, kind);
-    let q = operand(sheet, NodeNumber(fields.a), room, p);
-    let r = operand(sheet, NodeNumber(fields.b), room, q);
-    operand(sheet, NodeNumber(fields.c), room, r)
+    let next = two(sheet, fields, room);
+    operand(sheet, NodeNumber(fields.c), room, next)
 }
 
 // The length of a node's word.

@@ -30,12 +30,20 @@ pub enum Finding {
 // The range that stands where there is none.
 const NO_RANGE: Range = Range { low: 0, high: 0 };
 
+// What was kept of a node.
+fn kept_at(n: NodeNumber, findings: &[Kept; MOST_NODES]) -> Kept
+    requires { n.0 < most_nodes }
+    ensures { result.finding ≡ findings_in findings.now n.0 }
+{
+    findings[n.0 as usize]
+}
+
 // What a node was found to be.
 pub fn finding_at(n: NodeNumber, findings: &[Kept; MOST_NODES]) -> Finding
     requires { n.0 < most_nodes }
     ensures { (result ≡ findings_in findings.now n.0) × FindingFits result }
 {
-    findings[n.0 as usize].finding
+    kept_at(n, findings).finding
 }
 
 // The range of an operand found to be f, where the sort s is asked for.
@@ -94,41 +102,38 @@ fn from_one(kind: Kind, p: Range) -> Result<Finding, Cause>
     narrow_result(kind, p, NO_RANGE, NO_RANGE)
 }
 
-#[tactic(auto, using(crate::proofs::FindingLaws::operand_fits), unfolding(crate::specs::Steps::one_step))]
-fn one_operand(kind: Kind, s: Sort, f: Finding) -> Result<Finding, Cause>
-    requires { FindingFits f }
-    ensures { result ≡ one_step kind s f }
+#[tactic(auto, unfolding(crate::specs::Steps::one_step))]
+fn one_operand(kind: Kind, s: Sort, f: Kept) -> Result<Finding, Cause>
+    ensures { result ≡ one_step kind s f.finding }
 {
-    let p = of_sort(f, s)?;
+    let p = of_sort(f.finding, s)?;
     from_one(kind, p)
 }
 
-#[tactic(auto, using(crate::proofs::FindingLaws::operand_fits), unfolding(crate::specs::Steps::two_step))]
-fn two_operands(kind: Kind, s: Sort, t: Sort, f: Finding, g: Finding) -> Result<Finding, Cause>
-    requires { FindingFits f × FindingFits g }
-    ensures { result ≡ two_step kind s t f g }
+#[tactic(auto, unfolding(crate::specs::Steps::two_step))]
+fn two_operands(kind: Kind, s: Sort, t: Sort, f: Kept, g: Kept) -> Result<Finding, Cause>
+    ensures { result ≡ two_step kind s t f.finding g.finding }
 {
-    let p = of_sort(f, s)?;
-    let q = of_sort(g, t)?;
+    let p = of_sort(f.finding, s)?;
+    let q = of_sort(g.finding, t)?;
     narrow_result(kind, p, q, NO_RANGE)
 }
 
-#[tactic(auto, using(crate::proofs::FindingLaws::operand_fits), unfolding(crate::specs::Steps::three_step))]
+#[tactic(auto, unfolding(crate::specs::Steps::three_step))]
 fn three_operands(
     kind: Kind,
     s: Sort,
     t: Sort,
     u: Sort,
-    f: Finding,
-    g: Finding,
-    h: Finding,
+    f: Kept,
+    g: Kept,
+    h: Kept,
 ) -> Result<Finding, Cause>
-    requires { FindingFits f × FindingFits g }
-    ensures { result ≡ three_step kind s t u f g h }
+    ensures { result ≡ three_step kind s t u f.finding g.finding h.finding }
 {
-    let p = of_sort(f, s)?;
-    let q = of_sort(g, t)?;
-    let o = of_sort(h, u)?;
+    let p = of_sort(f.finding, s)?;
+    let q = of_sort(g.finding, t)?;
+    let o = of_sort(h.finding, u)?;
     narrow_result(kind, p, q, o)
 }
 
@@ -150,18 +155,18 @@ pub fn node_step(sheet: &[u8], r: Record, findings: &[Kept; MOST_NODES]) -> Resu
         Shape::Valued => from_one(kind, constant(r.value)),
         Shape::Named => from_one(kind, records::domain(sheet, VariableNumber(r.a))),
         Shape::One(s) => {
-            let f = finding_at(NodeNumber(r.a), findings);
+            let f = kept_at(NodeNumber(r.a), findings);
             one_operand(kind, s, f)
         }
         Shape::Two(s, t) => {
-            let f = finding_at(NodeNumber(r.a), findings);
-            let g = finding_at(NodeNumber(r.b), findings);
+            let f = kept_at(NodeNumber(r.a), findings);
+            let g = kept_at(NodeNumber(r.b), findings);
             two_operands(kind, s, t, f, g)
         }
         Shape::Three(s, t, u) => {
-            let f = finding_at(NodeNumber(r.a), findings);
-            let g = finding_at(NodeNumber(r.b), findings);
-            let h = finding_at(NodeNumber(r.c), findings);
+            let f = kept_at(NodeNumber(r.a), findings);
+            let g = kept_at(NodeNumber(r.b), findings);
+            let h = kept_at(NodeNumber(r.c), findings);
             three_operands(kind, s, t, u, f, g, h)
         }
     }

@@ -161,9 +161,11 @@ fn make_whole(text: &[u8], room: &mut [u8]) -> Result<usize, Refused>
 pub fn make(text: &[u8], room: &mut [u8]) -> Result<usize, Refused>
     ensures { Makes most_nodes text.now room.old result room.new }
 {
-    scan::scan(text).map_err(|place| Refused {
-        cause: Cause::Text,
-        place,
-    })?;
-    make_whole(text, room)
+    match scan::scan(text) {
+        Ok(()) => make_whole(text, room),
+        Err(place) => Err(Refused {
+            cause: Cause::Text,
+            place,
+        }),
+    }
 }

@@ -3,7 +3,6 @@ use Prim.Native.Nat.{ℕ, suc, ◌+◌, ◌-◌, ◌<◌, ◌≤◌}
 use mathlib.Core.Path.{◌≡◌, refl, sym, ap, ◌∙◌}
 use mathlib.Core.Bool.{Bool, true, false, ◌&&◌, ◌||◌}
 use mathlib.Core.List.{List, [], ◌∷◌, ◌++◌, map}
-use native.Mathlib.Nat.{zero-add}
 use native.Mathlib.Numerals.{add-one}
 use native.Mathlib.Omega.{arith}
 use denote.Ref.{Bor}
@@ -55,9 +54,6 @@ pub record Comparing (text u : List ℕ) (count line i : ℕ) : Type 0 where
   pub inside : line ≤ length text
   pub same : begins_any (names_in count text) u ≡ begins_any (names_in (count - i) (drop line text)) u
 
-pub comparing-begin : (text u : List ℕ) (count : ℕ) → Comparing text u count 0 0
-comparing-begin text u count = record { inside = omega arith; same = let e : count ≡ count - 0 = omega arith in ap (λ (n : ℕ). begins_any (names_in n text) u) e }
-
 first-name : (m : ℕ) (s u : List ℕ) → begins_any (names_in (suc m) s) u ≡ beginning u (first_word (drop behind_var s)) || begins_any (names_in m (behind_line s)) u
 unfolding begins_any names_in
 first-name m s u = refl
@@ -106,9 +102,6 @@ begun-any u (w ∷ ws) = ap (λ (b : Bool). beginning u w.now || b) (begun-any u
 
 pub record Reaching (begins : List ℕ → Bool) (w : List ℕ) (k : ℕ) : Type 0 where
   pub same : reach_from begins [] w ≡ k + reach_from begins (take k w) (drop k w)
-
-pub reaching-begin : (begins : List ℕ → Bool) (w : List ℕ) → Reaching begins w 0
-reaching-begin begins w = record { same = sym (zero-add (reach_from begins [] w)) }
 
 module _ {begins : List ℕ → Bool} {w : List ℕ} {k : ℕ} (x : Reaching begins w k) where
   module _ {b : Bool} (h : k < length w) (e : b ≡ begins (take (k + 1) w)) where

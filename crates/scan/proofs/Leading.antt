@@ -123,10 +123,6 @@ no-feed : (c : ℕ) → separates c ≡ false → c ≡ 10 → ⊥
 unfolding separates
 no-feed c e h = let q : true ≡ false = sym (ap separates h) ∙ e in true≢false q
 
-zero-joins : separates 0 ≡ true → ⊥
-unfolding separates
-zero-joins e = false≢true e
-
 -- a word with a space behind it is in its line; a line feed ends the line
 line-goes : (t : List ℕ) → byte_behind t ≡ 32 → behind_line t ≡ behind_line (behind_both t)
 unfolding word_length
@@ -247,9 +243,6 @@ part-is s k {end} e =
     ap (λ (i : ℕ). take i (drop k s)) m
 
 module _ {s : List ℕ} {h : Here} (k : Stands s h) {end : ℕ} (e : end ≡ end_at s h) where
-  pub ahead-short : length s ≤ end → Stuck s h
-  ahead-short l x i a q = absurd (omega arith)
-
   module _ {part : List ℕ} {o : prelude.Option Onward} (l : end < length s) (p : part ≡ take (end - h.start) (drop h.start s)) (f : o ≡ onward_at s h part) where
     word-is : part ≡ word_at s h
     word-is = p ∙ part-is s h.start e

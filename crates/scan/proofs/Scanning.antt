@@ -1,5 +1,5 @@
 -- The scan word by word: what is left of the text is left where the whole is, and where there is no way on it is left there. Assumes nothing.
-use Prim.Native.Nat.{ℕ, suc, ◌+◌, ◌-◌, ◌<◌, ◌≤◌}
+use Prim.Native.Nat.{ℕ, suc, ◌+◌, ◌<◌, ◌≤◌}
 use mathlib.Core.Path.{◌≡◌, refl, sym, ap, ◌∙◌}
 use mathlib.Core.Bool.{false, cond}
 use mathlib.Core.List.{List, []}
@@ -70,15 +70,6 @@ says : (s : List ℕ) (r : Result Unit ℕ) → place_of s ≡ stop_of r → Sca
 says s (Ok _) e = (text-lines s).1 ((lines-exactly s).0 e)
 says s (Err p) e = (leaves-as text-lines s p).1 ((leaves-exactly s p).0 e)
 
--- at any place but behind the goal
-pub not-done : (p : Phase) → (p ≡ Done → ⊥) → is_done p ≡ false
-not-done Line n = refl
-not-done Named n = refl
-not-done Least n = refl
-not-done Most n = refl
-not-done Operand n = refl
-not-done Done n = absurd (n refl)
-
 -- ---- the loop
 
 abbrev pub begin : Here
@@ -98,9 +89,6 @@ unfolding names_in
 scanning-begin s = record { stands = begin-stands s; same = refl }
 
 module _ {s : List ℕ} {h : Here} (w : Scanning s h) where
-  pub scanning-less : {g : Here} → Went s h g → length s - g.start < length s - h.start
-  scanning-less v = omega (arith, v.stands.inside, v.behind, v.inside)
-
   pub scanning-turn : {g : Here} → Went s h g → Scanning s g
   scanning-turn {g} v =
       let e : suc (end_at s h) ≡ g.start = omega (arith, v.behind) in

@@ -151,6 +151,7 @@ fn ahead(text: &[u8], here: Here) -> Option<Here>
 }
 
 // Whether these bytes begin a word.
+#[tactic(auto, using(crate::proofs::Beginnings::starts))]
 fn beginning(bytes: &[u8], word: &[u8]) -> bool
     ensures { result ≡ beginning bytes.now word.now }
 {
@@ -163,12 +164,14 @@ fn begins_line(bytes: &[u8]) -> bool
     beginning(bytes, b"var") || beginning(bytes, b"goal")
 }
 
+#[tactic(auto, using(crate::proofs::Beginnings::name_parts))]
 fn begins_name(bytes: &[u8]) -> bool
     ensures { result ≡ begins_name bytes.now }
 {
     bytes.is_empty() || bytes.len() <= MOST_NAME_BYTES && records::name_right(bytes)
 }
 
+#[tactic(auto, using(crate::proofs::Beginnings::number_parts))]
 fn begins_number(bytes: &[u8]) -> bool
     ensures { result ≡ begins_number bytes.now }
 {

@@ -26,6 +26,3 @@ checks-none s = refl
 pub checks-turn : (s : List ℕ) (k : ℕ) {r t : List ℕ} → r ≡ with_checks k s → t ≡ with_check k r → t ≡ with_checks (k + 1) s
 unfolding with_checks
 checks-turn s k e f = rw (f, e, add-one)
-
-pub checks-all : (s : List ℕ) {k count : ℕ} {r : List ℕ} → k ≡ count → r ≡ with_checks k s → r ≡ with_checks count s
-checks-all s e h = rw (← e) h

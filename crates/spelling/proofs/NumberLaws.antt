@@ -1,6 +1,6 @@
 -- An integer of 16 bits in decimal: how far it is from zero, its sign and its digits. Assumes nothing.
 use Prim.Native.Nat.{ℕ, suc, ◌+◌, ◌-◌, ◌≤◌, ◌<◌}
-use mathlib.Core.Path.{◌≡◌, refl, sym, ap, ◌∙◌}
+use mathlib.Core.Path.{◌≡◌, refl, sym, ap}
 use mathlib.Core.Bool.{true, false}
 use mathlib.Core.List.{◌++◌}
 use native.Mathlib.Decide.{dec_lt}
@@ -66,14 +66,7 @@ module _ {z : ℤ} (f : SFits w16 z) where
       let b : nat_abs z < 65536 = omega (arith, abs-ud z, narrow-ud (narrow-of-i16 f)) in
       rw kept-is (short z b)
 
--- ---- a number that the code has read
-pub value-text : {z y : ℤ} → z ≡ y → SFits w16 z → signed (kept z) ≡ signed y
-value-text e f = ap signed (kept-is f ∙ e)
-
-pub value-length : {z y : ℤ} → z ≡ y → SFits w16 z → length (signed (kept z)) ≡ length (signed y)
-value-length e f = ap length (value-text e f)
-
--- the integer that 16 bits stand for, and 16 bits of more: never far from zero
+-- ---- the integer that 16 bits stand for, and 16 bits of more: never far from zero
 pub value-short : (n : ℕ) → length (signed (dec 16 n)) ≤ longest_number
 value-short n = by (dec_lt n 32768)
   where

@@ -27,39 +27,48 @@ use Rattle.wording.specs.Words.{word_of}
 use Rattle.wording.specs.Text.{call1, call2, call3, text_by, text_step}
 use Rattle.wording.specs.Sixteen.{hex_text, literal, symbol_text}
 use Rattle.room.specs.Room.{Wrote}
-use Rattle.room.proofs.RoomLaws.{wrote_as, chain3, chain4, chain5}
+use Rattle.room.proofs.RoomLaws.{chain}
 use Rattle.pieces.specs.Sizes.{longest_word}
 use Rattle.pieces.proofs.WordLaws.{word-short}
 use Rattle.pieces.proofs.PieceLaws.{symbol-short, literal-length}
-use Rattle.terms.specs.Texts.{AcceptedNode, text_at, call_bytes, leaf_bytes, bytes_per_node, longest_text}
+use Rattle.terms.specs.Texts.{AcceptedNode, text_at, one_open, two_open, three_open, call_bytes, leaf_bytes, bytes_per_node, longest_text}
 
 -- ---- lengths
-pub length-1 : (w a : List ℕ) → length (call1 w a) ≡ call_bytes 1 + length w + length a
+length-1 : (w a : List ℕ) → length (call1 w a) ≡ call_bytes 1 + length w + length a
 length-1 w a = simp length-append (omega arith)
 
-pub length-2 : (w a b : List ℕ) → length (call2 w a b) ≡ call_bytes 2 + length w + length a + length b
+length-2 : (w a b : List ℕ) → length (call2 w a b) ≡ call_bytes 2 + length w + length a + length b
 length-2 w a b = simp length-append (omega arith)
 
-pub length-3 : (w a b c : List ℕ) → length (call3 w a b c) ≡ call_bytes 3 + length w + length a + length b + length c
+length-3 : (w a b c : List ℕ) → length (call3 w a b c) ≡ call_bytes 3 + length w + length a + length b + length c
 length-3 w a b c = simp length-append (omega arith)
 
--- ---- a node's text from its pieces
-pub wrote_one : {w a r₀ r₁ r₂ r₃ : List ℕ} {p q r : ℕ} → call_bytes 1 + length w + length a ≤ length r₀ → Wrote (ascii "(" ++ w) r₀ r₁ 0 p → Wrote (ascii " " ++ a) r₁ r₂ p q → Wrote (ascii ")") r₂ r₃ q r
-    → Wrote (call1 w a) r₀ r₃ 0 r
-wrote_one h x y z = wrote_as (chain3 (omega arith) x y z) (simp append_assoc)
+-- ---- the text up to the closing parenthesis, and that one
+open-1 : (w a : List ℕ) → length (ascii "(" ++ w ++ (ascii " " ++ a)) + 1 ≡ call_bytes 1 + length w + length a
+open-1 w a = simp length-append (omega arith)
+
+open-2 : (w a b : List ℕ) → length (ascii "(" ++ w ++ (ascii " " ++ a) ++ (ascii " " ++ b)) + 1 ≡ call_bytes 2 + length w + length a + length b
+open-2 w a b = simp length-append (omega arith)
+
+open-3 : (w a b c : List ℕ) → length (ascii "(" ++ w ++ (ascii " " ++ a) ++ (ascii " " ++ b) ++ (ascii " " ++ c)) + 1 ≡ call_bytes 3 + length w + length a + length b + length c
+open-3 w a b c = simp length-append (omega arith)
 
 flat : (x w y a z b e : List ℕ) → x ++ w ++ (y ++ a) ++ (z ++ b) ++ e ≡ x ++ (w ++ (y ++ (a ++ (z ++ (b ++ e)))))
 flat x w y a z b e = simp append_assoc
 
-pub wrote-two : {w a b r₀ r₁ r₂ r₃ r₄ : List ℕ} {p q s r : ℕ} → call_bytes 2 + length w + length a + length b ≤ length r₀ → Wrote (ascii "(" ++ w) r₀ r₁ 0 p → Wrote (ascii " " ++ a) r₁ r₂ p q
-    → Wrote (ascii " " ++ b) r₂ r₃ q s → Wrote (ascii ")") r₃ r₄ s r → Wrote (call2 w a b) r₀ r₄ 0 r
-wrote-two {w} {a} {b} h x y z u = wrote_as (chain4 (omega arith) x y z u) (flat (ascii "(") w (ascii " ") a (ascii " ") b (ascii ")"))
+closed-1 : (w a : List ℕ) → ascii "(" ++ w ++ (ascii " " ++ a) ++ ascii ")" ≡ call1 w a
+closed-1 w a = simp append_assoc
 
-pub wrote-three : {w a b c r₀ r₁ r₂ r₃ r₄ r₅ : List ℕ} {p q s t r : ℕ} → call_bytes 3 + length w + length a + length b + length c ≤ length r₀ → Wrote (ascii "(" ++ w) r₀ r₁ 0 p
-    → Wrote (ascii " " ++ a) r₁ r₂ p q → Wrote (ascii " " ++ b) r₂ r₃ q s → Wrote (ascii " " ++ c) r₃ r₄ s t → Wrote (ascii ")") r₄ r₅ t r → Wrote (call3 w a b c) r₀ r₅ 0 r
-wrote-three {w} {a} {b} {c} h x y z u v =
-    wrote_as (chain5 (omega arith) x y z u v)
-    (append_assoc (ascii "(" ++ w ++ (ascii " " ++ a) ++ (ascii " " ++ b)) (ascii " " ++ c) (ascii ")") ∙ flat (ascii "(") w (ascii " ") a (ascii " ") b (ascii " " ++ (c ++ ascii ")")))
+closed-2 : (w a b : List ℕ) → ascii "(" ++ w ++ (ascii " " ++ a) ++ (ascii " " ++ b) ++ ascii ")" ≡ call2 w a b
+closed-2 w a b = flat (ascii "(") w (ascii " ") a (ascii " ") b (ascii ")")
+
+closed-3 : (w a b c : List ℕ) → ascii "(" ++ w ++ (ascii " " ++ a) ++ (ascii " " ++ b) ++ (ascii " " ++ c) ++ ascii ")" ≡ call3 w a b c
+closed-3 w a b c =
+    append_assoc (ascii "(" ++ w ++ (ascii " " ++ a) ++ (ascii " " ++ b)) (ascii " " ++ c) (ascii ")") ∙ flat (ascii "(") w (ascii " ") a (ascii " ") b (ascii " " ++ (c ++ ascii ")"))
+
+-- an operand more
+pub wrote-more : {p t r₀ r₁ r₂ : List ℕ} {q r : ℕ} → length (p ++ t) ≤ length r₀ → Wrote p r₀ r₁ 0 q → Wrote t r₁ r₂ q r → Wrote (p ++ t) r₀ r₂ 0 r
+wrote-more {p} {t} h x y = chain (omega (arith, length-append p t)) x y
 
 -- the text of a node of shape h with the record r and the word w, where g has the texts of the nodes
 abbrev by_shape : (h : Shape) → List ℕ → Record → (ℕ → List ℕ) → List ℕ
@@ -77,14 +86,18 @@ bound (Two s t) r w n g st l o b all = omega (arith, length-2 w (g r.a) (g r.b),
 bound (Three s t u) r w n g st l o b all =
     omega (arith, length-3 w (g r.a) (g r.b) (g r.c), all r.a b.1.1.0, all r.b b.1.0, all r.c b.0)
 
--- ---- nodes by the number of their operands: the length of the text, and that the operands are nodes of lower numbers
+-- ---- nodes by the number of their operands: the text and its length, and that the operands are nodes of lower numbers
 pub record OneNode (s : List ℕ) (n : ℕ) (r : Record) : Type 0 where
+  pub before_end : length (one_open s r) + 1 ≡ length (text_at s n)
+  pub closed : one_open s r ++ ascii ")" ≡ text_at s n
   pub size : length (text_at s n) ≡ call_bytes 1 + length (word_of r.kind) + length (text_at s r.a)
   pub short : length (text_at s n) ≤ longest_text
   pub first : AcceptedNode s r.a
   pub low : r.a < n
 
 pub record TwoNode (s : List ℕ) (n : ℕ) (r : Record) : Type 0 where
+  pub before_end : length (two_open s r) + 1 ≡ length (text_at s n)
+  pub closed : two_open s r ++ ascii ")" ≡ text_at s n
   pub size : length (text_at s n) ≡ call_bytes 2 + length (word_of r.kind) + length (text_at s r.a) + length (text_at s r.b)
   pub short : length (text_at s n) ≤ longest_text
   pub first : AcceptedNode s r.a
@@ -93,6 +106,8 @@ pub record TwoNode (s : List ℕ) (n : ℕ) (r : Record) : Type 0 where
   pub low₂ : r.b < n
 
 pub record ThreeNode (s : List ℕ) (n : ℕ) (r : Record) : Type 0 where
+  pub before_end : length (three_open s r) + 1 ≡ length (text_at s n)
+  pub closed : three_open s r ++ ascii ")" ≡ text_at s n
   pub size : length (text_at s n) ≡ call_bytes 3 + length (word_of r.kind) + length (text_at s r.a) + length (text_at s r.b) + length (text_at s r.c)
   pub short : length (text_at s n) ≤ longest_text
   pub first : AcceptedNode s r.a
@@ -158,18 +173,39 @@ module _ {s : List ℕ} {n : ℕ} (ok : AcceptedNode s n) {r : Record} (er : r �
   pub one-node : {t : Sort} → h ≡ One t → OneNode s n r
   one-node eg =
       let b = operands-before eg in
-      record { size = ap length (node-text eg) ∙ length-1 (word_of r.kind) (text_at s r.a); short = text-short ok; first = lower-ready b.0; low = b.0 }
+      let size = ap length (node-text eg) ∙ length-1 (word_of r.kind) (text_at s r.a) in
+      record {
+        before_end = open-1 (word_of r.kind) (text_at s r.a) ∙ sym size;
+        closed = closed-1 (word_of r.kind) (text_at s r.a) ∙ sym (node-text eg);
+        size = size;
+        short = text-short ok;
+        first = lower-ready b.0;
+        low = b.0;
+      }
 
   pub two-node : {t u : Sort} → h ≡ Two t u → TwoNode s n r
   two-node eg =
       let b = operands-before eg in
-      record { size = ap length (node-text eg) ∙ length-2 (word_of r.kind) (text_at s r.a) (text_at s r.b); short = text-short ok; first = lower-ready b.1.0; second = lower-ready b.0; low = b.1.0; low₂ = b.0 }
+      let size = ap length (node-text eg) ∙ length-2 (word_of r.kind) (text_at s r.a) (text_at s r.b) in
+      record {
+        before_end = open-2 (word_of r.kind) (text_at s r.a) (text_at s r.b) ∙ sym size;
+        closed = closed-2 (word_of r.kind) (text_at s r.a) (text_at s r.b) ∙ sym (node-text eg);
+        size = size;
+        short = text-short ok;
+        first = lower-ready b.1.0;
+        second = lower-ready b.0;
+        low = b.1.0;
+        low₂ = b.0;
+      }
 
   pub three-node : {t u v : Sort} → h ≡ Three t u v → ThreeNode s n r
   three-node eg =
       let b = operands-before eg in
+      let size = ap length (node-text eg) ∙ length-3 (word_of r.kind) (text_at s r.a) (text_at s r.b) (text_at s r.c) in
       record {
-        size = ap length (node-text eg) ∙ length-3 (word_of r.kind) (text_at s r.a) (text_at s r.b) (text_at s r.c);
+        before_end = open-3 (word_of r.kind) (text_at s r.a) (text_at s r.b) (text_at s r.c) ∙ sym size;
+        closed = closed-3 (word_of r.kind) (text_at s r.a) (text_at s r.b) (text_at s r.c) ∙ sym (node-text eg);
+        size = size;
         short = text-short ok;
         first = lower-ready b.1.1.0;
         second = lower-ready b.1.0;

@@ -1,5 +1,5 @@
 -- Follows the code: the texts of nodes, by the sheet's records, and how long they can be.
-use Rattle.std.specs.Prelude.{ℕ, ◌+◌, ◌*◌, ◌<◌, ◌≡◌, List, [], length}
+use Rattle.std.specs.Prelude.{ℕ, ◌+◌, ◌*◌, ◌<◌, ◌≡◌, List, [], ◌++◌, length}
 use Rattle.std.proofs.Math.Option.{none}
 use Rattle.lists.specs.Ascii.{ascii}
 use Rattle.kinds.specs.declared.Record.{Record}
@@ -8,7 +8,7 @@ use Rattle.layout.specs.Fold.{of_node}
 use Rattle.layout.specs.Parts.{node_count, table}
 use Rattle.reading.specs.Cascade.{refusal_of}
 use Rattle.wording.specs.Words.{word_of}
-use Rattle.wording.specs.Text.{call1, call2, call3, text_step}
+use Rattle.wording.specs.Text.{text_step}
 use Rattle.wording.specs.Sixteen.{literal, symbol_text}
 use Rattle.pieces.specs.Sizes.{constant_bytes}
 
@@ -35,12 +35,12 @@ bytes_per_node = 9
 abbrev pub longest_text : ℕ
 longest_text = bytes_per_node * most_nodes
 
--- the text of a node with one operand, two or three, by its record
-abbrev pub one_text : List ℕ → Record → List ℕ
-one_text s r = call1 (word_of r.kind) (text_at s r.a)
+-- the text of a node with one operand, two or three, by its record, but for the closing parenthesis
+abbrev pub one_open : List ℕ → Record → List ℕ
+one_open s r = ascii "(" ++ word_of r.kind ++ (ascii " " ++ text_at s r.a)
 
-abbrev pub two_text : List ℕ → Record → List ℕ
-two_text s r = call2 (word_of r.kind) (text_at s r.a) (text_at s r.b)
+abbrev pub two_open : List ℕ → Record → List ℕ
+two_open s r = one_open s r ++ (ascii " " ++ text_at s r.b)
 
-abbrev pub three_text : List ℕ → Record → List ℕ
-three_text s r = call3 (word_of r.kind) (text_at s r.a) (text_at s r.b) (text_at s r.c)
+abbrev pub three_open : List ℕ → Record → List ℕ
+three_open s r = two_open s r ++ (ascii " " ++ text_at s r.c)

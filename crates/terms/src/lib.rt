@@ -3,9 +3,8 @@
 
 ghost use Rattle.std.specs.Prelude.{◌≡◌, ◌++◌, ◌+◌, ◌≤◌, length};
 ghost use Rattle.lists.specs.Ascii.{ascii};
-ghost use Rattle.wording.specs.Words.{word_of};
 ghost use Rattle.room.specs.Room.{Wrote};
-ghost use Rattle.terms.specs.Texts.{AcceptedNode, text_at, call_bytes, one_text, two_text, three_text};
+ghost use Rattle.terms.specs.Texts.{AcceptedNode, text_at, one_open, two_open, three_open};
 
 use kinds::{Record, Shape};
 use numbers::{NodeNumber, VariableNumber};
@@ -31,9 +30,18 @@ fn term(sheet: &[u8], node: NodeNumber, room: &mut [u8]) -> usize
         Shape::Bare => pieces::put_word(room, 0, kind),
         Shape::Valued => pieces::constant(room, fields.value),
         Shape::Named => pieces::symbol(room, 0, VariableNumber(fields.a)),
-        Shape::One(_) => one(sheet, fields, room),
-        Shape::Two(_, _) => two(sheet, fields, room),
-        Shape::Three(_, _, _) => three(sheet, fields, room),
+        Shape::One(_) => {
+            let end = one(sheet, fields, room);
+            room::put(room, end, &CLOSE)
+        }
+        Shape::Two(_, _) => {
+            let end = two(sheet, fields, room);
+            room::put(room, end, &CLOSE)
+        }
+        Shape::Three(_, _, _) => {
+            let end = three(sheet, fields, room);
+            room::put(room, end, &CLOSE)
+        }
     }
 }
 
@@ -47,43 +55,34 @@ pub fn operand(sheet: &[u8], node: NodeNumber, room: &mut [u8], at: usize) -> us
     next + term(sheet, node, &mut room[next..])
 }
 
-// The text of a node with one operand.
+// The text of a node with one operand, but for its end.
 #[cycle(one_operand_term_three_two)]
 fn one(sheet: &[u8], fields: Record, room: &mut [u8]) -> usize
-    requires { AcceptedNode sheet.now fields.a × (call_bytes 1 + length (word_of fields.kind) + length (text_at sheet.now fields.a) ≤ length room.old) }
-    ensures { Wrote (one_text sheet.now fields) room.old room.new 0 result }
+    requires { AcceptedNode sheet.now fields.a × (length (one_open sheet.now fields) ≤ length room.old) }
+    ensures { Wrote (one_open sheet.now fields) room.old room.new 0 result }
 {
-    let kind = fields.kind;
-    let p = pieces::head(room, kind);
-    let q = operand(sheet, NodeNumber(fields.a), room, p);
-    room::put(room, q, &CLOSE)
+    let next = pieces::head(room, fields.kind);
+    operand(sheet, NodeNumber(fields.a), room, next)
 }
 
-// The text of a node with two operands.
+// The text of a node with two operands, but for its end: as with the first alone, and the second.
 #[cycle(one_operand_term_three_two)]
 fn two(sheet: &[u8], fields: Record, room: &mut [u8]) -> usize
-    requires { AcceptedNode sheet.now fields.a × AcceptedNode sheet.now fields.b × (call_bytes 2 + length (word_of fields.kind) + length (text_at sheet.now fields.a) + length (text_at sheet.now fields.b) ≤ length room.old) }
-    ensures { Wrote (two_text sheet.now fields) room.old room.new 0 result }
+    requires { AcceptedNode sheet.now fields.a × AcceptedNode sheet.now fields.b × (length (two_open sheet.now fields) ≤ length room.old) }
+    ensures { Wrote (two_open sheet.now fields) room.old room.new 0 result }
 {
-    let kind = fields.kind;
-    let p = pieces::head(room, kind);
-    let q = operand(sheet, NodeNumber(fields.a), room, p);
-    let r = operand(sheet, NodeNumber(fields.b), room, q);
-    room::put(room, r, &CLOSE)
+    let next = one(sheet, fields, room);
+    operand(sheet, NodeNumber(fields.b), room, next)
 }
 
-// The text of a node with three operands.
+// The text of a node with three operands, but for its end: as with the first two, and the third.
 #[cycle(one_operand_term_three_two)]
 fn three(sheet: &[u8], fields: Record, room: &mut [u8]) -> usize
-    requires { AcceptedNode sheet.now fields.a × AcceptedNode sheet.now fields.b × AcceptedNode sheet.now fields.c × (call_bytes 3 + length (word_of fields.kind) + length (text_at sheet.now fields.a) + length (text_at sheet.now fields.b) + length (text_at sheet.now fields.c) ≤ length room.old) }
-    ensures { Wrote (three_text sheet.now fields) room.old room.new 0 result }
+    requires { AcceptedNode sheet.now fields.a × AcceptedNode sheet.now fields.b × AcceptedNode sheet.now fields.c × (length (three_open sheet.now fields) ≤ length room.old) }
+    ensures { Wrote (three_open sheet.now fields) room.old room.new 0 result }
 {
-    let kind = fields.kind;
-    let p = pieces::head(room, kind);
-    let q = operand(sheet, NodeNumber(fields.a), room, p);
-    let r = operand(sheet, NodeNumber(fields.b), room, q);
-    let s = operand(sheet, NodeNumber(fields.c), room, r);
-    room::put(room, s, &CLOSE)
+    let next = two(sheet, fields, room);
+    operand(sheet, NodeNumber(fields.c), room, next)
 }
 
 // The length of a node's text.

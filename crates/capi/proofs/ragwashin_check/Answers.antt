@@ -1,5 +1,5 @@
 -- `ragwashin_check` meets its contract: the code of what `check` answers, the room as it leaves it. Assumes nothing.
-use mathlib.Core.Path.{refl, ap}
+use mathlib.Core.Path.{◌∙◌, ap, refl}
 use native.Mathlib.Omega.{arith}
 use Rattle.std.specs.Prelude.{Ok}
 use Rattle.cases.specs.Checks.{checked_said}
@@ -7,7 +7,7 @@ use Rattle.capi.proofs.CaseCodes.{checked-code, checked-place}
 use Rattle.capi.proofs.ragwashin_check.Goals as goal
 
 pub refusal_code-requires : goal.refusal_code-requires
-refusal_code-requires c = omega (arith, checked-place _ c.check.ensures c.in-Err.is)
+refusal_code-requires c = rw c.into.ensures (omega (arith, checked-place _ c.check.ensures c.in-Err.is))
 
 pub returns-in-Ok-Holds : goal.returns-in-Ok-Holds
 returns-in-Ok-Holds c = checked-code _ c.check.ensures (ap checked_said (c.in-Ok-Holds.is ∙ ap Ok c.in-Ok-Holds.field-0-is)) refl

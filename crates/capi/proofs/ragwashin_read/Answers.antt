@@ -6,7 +6,7 @@ use Rattle.capi.proofs.CodeLaws.{accepted-code, refused-code, place-small}
 use Rattle.capi.proofs.ragwashin_read.Goals as goal
 
 pub refusal_code-requires : goal.refusal_code-requires
-refusal_code-requires c = omega (arith, place-small _ c.read.ensures c.in-Err.is)
+refusal_code-requires c = rw c.into.ensures (omega (arith, place-small _ c.read.ensures c.in-Err.is))
 
 pub returns-in-Ok : goal.returns-in-Ok
 returns-in-Ok c = accepted-code _ c.read.ensures c.in-Ok.is

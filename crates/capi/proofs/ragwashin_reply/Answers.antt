@@ -1,7 +1,7 @@
 -- `ragwashin_reply` meets its contract: the code of what `reply` answers. Assumes nothing.
-use mathlib.Core.Path.{refl}
+use mathlib.Core.Path.{◌∙◌, ap, refl}
 use Rattle.std.specs.Prelude.{Ok}
-use Rattle.capi.proofs.ReplyLaws.{reply-code, reply-refused-code}
+use Rattle.capi.proofs.ReplyLaws.{reply-code}
 use Rattle.capi.proofs.ragwashin_reply.Goals as goal
 
 pub returns-in-Ok-Unsat : goal.returns-in-Ok-Unsat

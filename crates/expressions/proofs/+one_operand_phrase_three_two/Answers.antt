@@ -1,14 +1,18 @@
 -- `expressions::phrase` and the functions that it calls on its operands meet their contracts: the node's number falls. Assumes nothing.
+use Prim.Native.Nat.{ℕ}
 use mathlib.Core.Path.{sym, ap}
+use mathlib.Core.List.{List}
 use native.Mathlib.Omega.{arith}
 use lib.ListN.{length}
+use Rattle.kinds.specs.Kinds.{row}
 use Rattle.room.proofs.RoomLaws.{wrote_as, chain, wrote-part}
+use Rattle.expressions.specs.Phrases.{phrase_at}
 use Rattle.expressions.proofs.PhraseLaws.{wrote_one, wrote-two, wrote-three, inside, node-text, never-wrong, one-node, two-node, three-node, named-variable, named-text}
 use Rattle.expressions.proofs.+one_operand_phrase_three_two.Goals as goal
 
 pub one-returns : goal.one-returns
 one-returns t c =
-    wrote_one (omega arith) c.put_word-p.ensures c.operand.ensures
+    wrote_one (omega arith) c.put_word-next.ensures c.operand.ensures
 
 pub operand-returns : goal.operand-returns
 operand-returns t c = chain (omega arith) c.put-next.ensures (wrote-part _ c.phrase.ensures)
@@ -69,8 +73,12 @@ phrase-returns-in-Three t c =
 
 pub three-returns : goal.three-returns
 three-returns t c =
-    wrote-three (omega arith) c.put_word-p.ensures c.operand-q.ensures c.operand-r.ensures c.operand.ensures
+    let a = c.args in
+    let t : ℕ → List ℕ = phrase_at a.sheet.now in
+    wrote-three (row a.fields.kind).plain (t a.fields.a) (t a.fields.b) (t a.fields.c) (omega arith) c.two-next.ensures c.operand.ensures
 
 pub two-returns : goal.two-returns
 two-returns t c =
-    wrote-two (omega arith) c.put_word-p.ensures c.operand-q.ensures c.operand.ensures
+    let a = c.args in
+    let t : ℕ → List ℕ = phrase_at a.sheet.now in
+    wrote-two (row a.fields.kind).plain (t a.fields.a) (t a.fields.b) (omega arith) c.one-next.ensures c.operand.ensures

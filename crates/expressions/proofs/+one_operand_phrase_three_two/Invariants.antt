@@ -3,16 +3,16 @@ use Prim.Native.Nat.{◌+◌, ◌*◌, max}
 use Rattle.expressions.proofs.+one_operand_phrase_three_two.Given as goal
 
 abbrev pub decreases-one : goal.decreases-one
-decreases-one l = 3 * l.fields.a + 2
+decreases-one l = 5 * l.fields.a + 2
 
 abbrev pub decreases-operand : goal.decreases-operand
-decreases-operand l = 3 * l.node.0 + 1
+decreases-operand l = 5 * l.node.0 + 1
 
 abbrev pub decreases-phrase : goal.decreases-phrase
-decreases-phrase l = 3 * l.node.0
+decreases-phrase l = 5 * l.node.0
 
 abbrev pub decreases-three : goal.decreases-three
-decreases-three l = 3 * max l.fields.a (max l.fields.b l.fields.c) + 2
+decreases-three l = 5 * max l.fields.a (max l.fields.b l.fields.c) + 4
 
 abbrev pub decreases-two : goal.decreases-two
-decreases-two l = 3 * max l.fields.a l.fields.b + 2
+decreases-two l = 5 * max l.fields.a l.fields.b + 3

@@ -9,12 +9,6 @@ loop-i-init c = (omega arith, lines-begin _ _ _)
 pub put_line-at-requires : goal.put_line-at-requires
 put_line-at-requires c = lines-ask c.loop-i.invariant.1 c.requires c.loop-i-test.true (omega arith)
 
-pub overflow_add-i : goal.overflow_add-i
-overflow_add-i c = omega arith
-
-pub loop-i-smaller : goal.loop-i-smaller
-loop-i-smaller c = omega arith
-
 pub loop-i-preserved : goal.loop-i-preserved
 loop-i-preserved c = (omega arith, lines-turn c.loop-i.invariant.1 c.loop-i-test.true c.put_line-at.ensures)
 

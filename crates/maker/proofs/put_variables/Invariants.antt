@@ -7,6 +7,3 @@ use Rattle.maker.proofs.put_variables.Given as goal
 
 abbrev pub invariant-loop-i : goal.invariant-loop-i
 invariant-loop-i l = (length l.sheet ≡ length l.initial.sheet) × Lines l.text l.count l.initial.sheet l.at l.i l.sheet
-
-abbrev pub decreases-loop-i : goal.decreases-loop-i
-decreases-loop-i l = l.count - l.i

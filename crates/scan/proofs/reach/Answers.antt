@@ -2,11 +2,8 @@
 use mathlib.Core.Path.{◌≡◌, ◌∙◌}
 use native.Mathlib.Omega.{arith}
 use lib.ListN.{length}
-use Rattle.scan.proofs.Beginnings.{reaching-begin, reaching-stop, reaching-turn, reaching-end}
+use Rattle.scan.proofs.Beginnings.{reaching-stop, reaching-turn, reaching-end}
 use Rattle.scan.proofs.reach.Goals as goal
-
-pub loop-k-init : goal.loop-k-init
-loop-k-init c = reaching-begin _ _
 
 pub returns-then-not-begins : goal.returns-then-not-begins
 returns-then-not-begins c = reaching-stop c.loop-k.invariant c.loop-k-test.true c.begins.ensures c.if-not-begins.true
