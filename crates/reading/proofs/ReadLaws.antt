@@ -1,27 +1,18 @@
 -- The reading step by step: what each step's answer makes of the whole, and what it leaves for the next. Assumes nothing.
-use Prim.Native.Nat.{ℕ, ◌+◌, ◌*◌, ◌%◌, ◌≤◌, ◌<◌}
-use mathlib.Core.Path.{◌≡◌, sym, ap, ◌∙◌}
+use Prim.Native.Nat.{ℕ, ◌+◌, ◌*◌, ◌%◌, ◌^◌, ◌≤◌, ◌<◌}
+use mathlib.Core.Path.{◌≡◌, sym}
 use mathlib.Core.List.{List}
-use mathlib.Core.Option.{Option, none, some}
+use mathlib.Core.Option.{none}
 use native.Mathlib.Omega.{arith}
 use lib.ListN.{length}
-use Rattle.lists.proofs.FirstLaws.{otherwise-none, otherwise-some}
-use Rattle.refusals.specs.declared.Refusal.{Refusal}
 use Rattle.numbers.specs.Bytes.{most_byte}
 use Rattle.layout.specs.Limits.{block_bytes, name_start, most_variables, variable_place, most_nodes}
-use Rattle.layout.specs.Parts.{variable_count}
-use Rattle.std.specs.Prelude.{Result, Ok, Err}
-use Rattle.refusals.specs.declared.Refused.{Refused}
-use Rattle.refusals.specs.Causes.{refusal_of as told}
-use Rattle.refusals.specs.Said.{said_of}
+use Rattle.layout.specs.Parts.{node_count, variable_count}
 use Rattle.blocks.specs.Early.{early}
 use Rattle.blocks.proofs.EarlyLaws.{early-none, right-length}
 use Rattle.header.specs.Header.{header, Counted}
 use Rattle.header.proofs.HeaderLaws.{block_inside, blocks-inside, right-of-none, right-counts}
-use Rattle.records.specs.Variables.{variables}
-use Rattle.nodes.specs.Nodes.{nodes}
 use Rattle.reading.specs.Cascade.{refusal_of}
-use Rattle.reading.specs.Name.{NameGiven}
 use Rattle.reading.proofs.RuleLaws.{accepted-counted}
 
 -- ---- what each step leaves to the next
@@ -40,10 +31,17 @@ module _ (s : List ℕ) where
   pub records_inside : none ≡ header most_nodes s → (2 * block_bytes ≤ length s) × (variable_count s ≤ most_variables)
   records_inside e = let c = read_counted e in (blocks-inside c, c.few)
 
-  -- ---- the name
+  -- ---- what an accepted sheet has
   pub accepted_long : none ≡ refusal_of most_nodes s → block_bytes ≤ length s
   accepted_long e = block_inside (accepted-counted s (sym e))
 
+  pub accepted_block : refusal_of most_nodes s ≡ none → block_bytes ≤ length s
+  accepted_block e = accepted_long (sym e)
+
+  pub some_nodes : refusal_of most_nodes s ≡ none → (1 ≤ node_count s) × (node_count s < 2 ^ 16)
+  some_nodes e = let c = accepted-counted s e in (c.some-node, omega (arith, c.most))
+
+  -- the name of variable i, and the record of node n
   pub name_inside : {i : ℕ} → none ≡ refusal_of most_nodes s → i < variable_count s → variable_place i + name_start + most_byte ≤ length s
   name_inside e h =
       let c = accepted-counted s (sym e) in

@@ -10,6 +10,8 @@ ghost use Rattle.reading.specs.Name.{NamePart};
 use numbers::VariableNumber;
 use refusals::Refused;
 
+pub mod accepted;
+
 // Accepted, or refusal 1 to 8 with its place.
 #[tactic(auto, using(crate::proofs::ReadLaws::one_block, crate::proofs::ReadLaws::read_counted, crate::proofs::ReadLaws::records_inside), unfolding(crate::specs::Cascade::refusal_of))]
 pub fn read(sheet: &[u8]) -> Result<(), Refused>
