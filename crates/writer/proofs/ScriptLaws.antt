@@ -136,13 +136,13 @@ module _ (s : List ℕ) (e : refusal_of most_nodes s ≡ none) where
   unfolding text_at
   goal-text = sym (goal-found (text_step literal symbol_text) [] (table s) (accepted-sound s e))
 
-  pub goal-length : length (goal_lines s) ≡ goal_bytes + length (text_at s (goal_at s))
+  pub goal-length : {g : ℕ} → g ≡ goal_at s → length (goal_lines s) ≡ goal_bytes + length (text_at s g)
   unfolding goal_lines
-  goal-length = simp length-append (omega arith)
+  goal-length eg = rw eg (simp length-append (omega arith))
 
   -- the goal is a node
-  pub goal-below : {n : ℕ} → n ≡ goal_at s → n < node_count s
-  goal-below g = omega (arith, (accepted-counted s e).some-node)
+  pub goal-below : {g : ℕ} → g ≡ goal_at s → g < node_count s
+  goal-below eg = omega (arith, (accepted-counted s e).some-node)
 
   -- the first block is there
   pub first_block : block_bytes ≤ length s
@@ -181,11 +181,11 @@ module _ (m : Bool) (s : List ℕ) (e : refusal_of most_nodes s ≡ none) where
     pub script-parts : length (script (sixteen m) (rule_in s)) ≡ length (opening_lines m v) + length (joined_below (range_line b) v) + length (goal_lines s) + length (ending_lines m v)
     script-parts = ap length (sym script-from) ∙ simp length-append (omega arith)
 
-  pub script-length : {v size : ℕ} → v ≡ variable_count s → LinesSize v size → length (script (sixteen m) (rule_in s)) ≡ size + length (text_at s (goal_at s)) + frame_bytes + models_bytes m v
-  script-length {v} ev l = omega (arith, script-parts refl ev, opening-length m v, goal-length s e, ending-length m v, l.of s)
+  pub script-length : {v size g : ℕ} → v ≡ variable_count s → LinesSize v size → g ≡ goal_at s → length (script (sixteen m) (rule_in s)) ≡ size + length (text_at s g) + frame_bytes + models_bytes m v
+  script-length {v} ev l eg = omega (arith, script-parts refl ev, opening-length m v, goal-length s e eg, ending-length m v, l.of s)
 
   pub script-short : length (script (sixteen m) (rule_in s)) ≤ enough_room
   script-short =
       let c = accepted-counted s e in
       let v = variable_count s in
-      omega (arith, script-parts refl refl, opening-length m v, goal-length s e, ending-length m v, only-short m produce_models, only-short m (values_line v), lines-short s v, values-short v, text-short (record { accepted = e; below = goal-below s e refl }), c.few)
+      omega (arith, script-parts refl refl, opening-length m v, goal-length s e refl, ending-length m v, only-short m produce_models, only-short m (values_line v), lines-short s v, values-short v, text-short (record { accepted = e; below = goal-below s e refl }), c.few)

@@ -1,9 +1,6 @@
 -- `writer::script_len` meets its contract: the parts of the script one by one. Assumes nothing.
-use mathlib.Core.Path.{ap}
 use native.Mathlib.Omega.{arith}
-use lib.ListN.{length}
 use Rattle.reading.proofs.RuleLaws.{accepted-counted}
-use Rattle.terms.specs.Texts.{text_at}
 use Rattle.writer.proofs.ScriptLaws.{goal-below, script-length, script-short}
 use Rattle.writer.proofs.script_len.Goals as goal
 
@@ -15,19 +12,19 @@ variables_len-requires c = omega (arith, (accepted-counted _ c.bytes.ensures.acc
 
 pub overflow_add-result : goal.overflow_add-result
 overflow_add-result c =
-    omega (arith, script-length c.args.form.models _ c.bytes.ensures.accepted c.variable_count-count.ensures c.variables_len.ensures, ap (λ n. length (text_at c.args.sheet.now n)) c.goal.ensures, script-short c.args.form.models _ c.bytes.ensures.accepted)
+    omega (arith, script-length c.args.form.models _ c.bytes.ensures.accepted c.variable_count-count.ensures c.variables_len.ensures c.goal.ensures, script-short c.args.form.models _ c.bytes.ensures.accepted)
 
 pub overflow_add-result-2 : goal.overflow_add-result-2
 overflow_add-result-2 c =
-    omega (arith, script-length c.args.form.models _ c.bytes.ensures.accepted c.variable_count-count.ensures c.variables_len.ensures, ap (λ n. length (text_at c.args.sheet.now n)) c.goal.ensures, script-short c.args.form.models _ c.bytes.ensures.accepted)
+    omega (arith, script-length c.args.form.models _ c.bytes.ensures.accepted c.variable_count-count.ensures c.variables_len.ensures c.goal.ensures, script-short c.args.form.models _ c.bytes.ensures.accepted)
 
 pub models_len-requires : goal.models_len-requires
 models_len-requires c = omega (arith, (accepted-counted _ c.bytes.ensures.accepted).few)
 
 pub overflow_add-result-3 : goal.overflow_add-result-3
 overflow_add-result-3 c =
-    omega (arith, script-length c.args.form.models _ c.bytes.ensures.accepted c.variable_count-count.ensures c.variables_len.ensures, ap (λ n. length (text_at c.args.sheet.now n)) c.goal.ensures, script-short c.args.form.models _ c.bytes.ensures.accepted)
+    omega (arith, script-length c.args.form.models _ c.bytes.ensures.accepted c.variable_count-count.ensures c.variables_len.ensures c.goal.ensures, script-short c.args.form.models _ c.bytes.ensures.accepted)
 
 pub returns : goal.returns
 returns c =
-    omega (arith, script-length c.args.form.models _ c.bytes.ensures.accepted c.variable_count-count.ensures c.variables_len.ensures, ap (λ n. length (text_at c.args.sheet.now n)) c.goal.ensures)
+    omega (arith, script-length c.args.form.models _ c.bytes.ensures.accepted c.variable_count-count.ensures c.variables_len.ensures c.goal.ensures)
