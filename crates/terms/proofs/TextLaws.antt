@@ -6,7 +6,7 @@ use native.Mathlib.Omega.{arith}
 use lib.ListN.{length, length-append}
 use Rattle.lists.specs.Ascii.{ascii}
 use Rattle.numbers.specs.Two.{dec}
-use Rattle.numbers.specs.Bytes.{Bytes}
+use Rattle.numbers.specs.Bytes.{word_limit}
 use Rattle.numbers.proofs.Bytes16.{enc16-dec16}
 use Rattle.meaning.specs.declared.Sort.{Sort}
 use Rattle.kinds.specs.declared.Record.{Record}
@@ -15,12 +15,11 @@ use Rattle.kinds.specs.declared.Shape.TheVariants.{Wrong, Bare, Valued, Named, O
 use Rattle.kinds.specs.Kinds.{row}
 use Rattle.layout.specs.Limits.{most_variables, node_bytes, node_place}
 use Rattle.layout.specs.Starts.{shape_at, operands_of, start_by, start_at, Ordered, VariableBelow}
-use Rattle.layout.specs.Parts.{variable_count, table}
+use Rattle.layout.specs.Parts.{node_count, variable_count, table}
 use Rattle.layout.specs.LaidOut.{Placed}
 use Rattle.layout.specs.Fold.{found_by}
 use Rattle.layout.proofs.StartLaws.{Before, lower, start_is}
 use Rattle.layout.proofs.FoldLaws.{node-is}
-use Rattle.layout.proofs.PartLaws.{words}
 use Rattle.header.proofs.HeaderLaws.{node-inside}
 use Rattle.reading.proofs.RuleLaws.{accepted-counted, accepted-sound}
 use Rattle.wording.specs.Words.{word_of}
@@ -31,7 +30,7 @@ use Rattle.room.proofs.RoomLaws.{chain}
 use Rattle.pieces.specs.Sizes.{longest_word}
 use Rattle.pieces.proofs.WordLaws.{word-short}
 use Rattle.pieces.proofs.PieceLaws.{symbol-short, literal-length}
-use Rattle.terms.specs.Texts.{AcceptedNode, text_at, one_open, two_open, three_open, call_bytes, leaf_bytes, bytes_per_node, longest_text}
+use Rattle.terms.specs.Texts.{AcceptedNode, NodeRecord, text_at, one_open, two_open, three_open, call_bytes, leaf_bytes, bytes_per_node, longest_text}
 
 -- ---- lengths
 length-1 : (w a : List ℕ) → length (call1 w a) ≡ call_bytes 1 + length w + length a
@@ -92,7 +91,7 @@ pub record OneNode (s : List ℕ) (n : ℕ) (r : Record) : Type 0 where
   pub closed : one_open s r ++ ascii ")" ≡ text_at s n
   pub size : length (text_at s n) ≡ call_bytes 1 + length (word_of r.kind) + length (text_at s r.a)
   pub short : length (text_at s n) ≤ longest_text
-  pub first : AcceptedNode s r.a
+  pub first : r.a < node_count s
   pub low : r.a < n
 
 pub record TwoNode (s : List ℕ) (n : ℕ) (r : Record) : Type 0 where
@@ -100,8 +99,8 @@ pub record TwoNode (s : List ℕ) (n : ℕ) (r : Record) : Type 0 where
   pub closed : two_open s r ++ ascii ")" ≡ text_at s n
   pub size : length (text_at s n) ≡ call_bytes 2 + length (word_of r.kind) + length (text_at s r.a) + length (text_at s r.b)
   pub short : length (text_at s n) ≤ longest_text
-  pub first : AcceptedNode s r.a
-  pub second : AcceptedNode s r.b
+  pub first : r.a < node_count s
+  pub second : r.b < node_count s
   pub low : r.a < n
   pub low₂ : r.b < n
 
@@ -110,9 +109,9 @@ pub record ThreeNode (s : List ℕ) (n : ℕ) (r : Record) : Type 0 where
   pub closed : three_open s r ++ ascii ")" ≡ text_at s n
   pub size : length (text_at s n) ≡ call_bytes 3 + length (word_of r.kind) + length (text_at s r.a) + length (text_at s r.b) + length (text_at s r.c)
   pub short : length (text_at s n) ≤ longest_text
-  pub first : AcceptedNode s r.a
-  pub second : AcceptedNode s r.b
-  pub third : AcceptedNode s r.c
+  pub first : r.a < node_count s
+  pub second : r.b < node_count s
+  pub third : r.c < node_count s
   pub low : r.a < n
   pub low₂ : r.b < n
   pub low₃ : r.c < n
@@ -145,30 +144,30 @@ module _ {s : List ℕ} where
       omega (arith, short-below (suc n) n (omega arith) ok, c.most, ok.below)
 
 -- ---- a node by its record r and its shape h
-module _ {s : List ℕ} {n : ℕ} (ok : AcceptedNode s n) {r : Record} (er : r ≡ table s n) {h : Shape} (eh : h ≡ (row r.kind).shape) where
+module _ {s : List ℕ} {n : ℕ} {r : Record} (known : NodeRecord s n r) {h : Shape} (eh : h ≡ (row r.kind).shape) where
   as-shape : h ≡ shape_at (table s n)
-  as-shape = eh ∙ ap shape_at er
+  as-shape = eh ∙ ap shape_at known.fields
 
   pub node-text : {g : Shape} → h ≡ g → text_at s n ≡ by_shape g (word_of r.kind) r (text_at s)
-  node-text eg = rw (sym eg ∙ as-shape, er) (from-record ok)
+  node-text eg = rw (sym eg ∙ as-shape, known.fields) (from-record known.ready)
 
   pub operands-before : {g : Shape} → h ≡ g → Before n (operands_of g r)
-  operands-before eg = rw (sym eg ∙ as-shape, er) (lower (placed ok))
+  operands-before eg = rw (sym eg ∙ as-shape, known.fields) (lower (placed known.ready))
 
   -- a constant's text, by the record's 16 bits
-  pub valued-text : Bytes s → h ≡ Valued → hex_text r.value ≡ text_at s n
+  pub valued-text : r.value < word_limit → h ≡ Valued → hex_text r.value ≡ text_at s n
   unfolding literal
-  valued-text b eg = sym (node-text eg ∙ ap hex_text (enc16-dec16 (rw er (words s b n))))
+  valued-text l eg = sym (node-text eg ∙ ap hex_text (enc16-dec16 l))
 
   -- a variable's number
   pub named_small : h ≡ Named → r.a < most_variables
   named_small eg =
-      let l : (table s n).a < variable_count s = subst (λ (g : Shape). VariableBelow g (table s n) (variable_count s)) (sym as-shape ∙ eg) (placed ok).listed in
-      omega (arith, ap (λ (x : Record). x.a) er, (accepted-counted s ok.accepted).few)
+      let l : (table s n).a < variable_count s = subst (λ (g : Shape). VariableBelow g (table s n) (variable_count s)) (sym as-shape ∙ eg) (placed known.ready).listed in
+      omega (arith, ap (λ (x : Record). x.a) known.fields, (accepted-counted s known.ready.accepted).few)
 
   -- nodes with operands
-  lower-ready : {a : ℕ} → a < n → AcceptedNode s a
-  lower-ready l = record { accepted = ok.accepted; below = omega (arith, ok.below) }
+  lower-below : {a : ℕ} → a < n → a < node_count s
+  lower-below l = omega (arith, known.ready.below)
 
   pub one-node : {t : Sort} → h ≡ One t → OneNode s n r
   one-node eg =
@@ -178,8 +177,8 @@ module _ {s : List ℕ} {n : ℕ} (ok : AcceptedNode s n) {r : Record} (er : r �
         before_end = open-1 (word_of r.kind) (text_at s r.a) ∙ sym size;
         closed = closed-1 (word_of r.kind) (text_at s r.a) ∙ sym (node-text eg);
         size = size;
-        short = text-short ok;
-        first = lower-ready b.0;
+        short = text-short known.ready;
+        first = lower-below b.0;
         low = b.0;
       }
 
@@ -191,9 +190,9 @@ module _ {s : List ℕ} {n : ℕ} (ok : AcceptedNode s n) {r : Record} (er : r �
         before_end = open-2 (word_of r.kind) (text_at s r.a) (text_at s r.b) ∙ sym size;
         closed = closed-2 (word_of r.kind) (text_at s r.a) (text_at s r.b) ∙ sym (node-text eg);
         size = size;
-        short = text-short ok;
-        first = lower-ready b.1.0;
-        second = lower-ready b.0;
+        short = text-short known.ready;
+        first = lower-below b.1.0;
+        second = lower-below b.0;
         low = b.1.0;
         low₂ = b.0;
       }
@@ -206,10 +205,10 @@ module _ {s : List ℕ} {n : ℕ} (ok : AcceptedNode s n) {r : Record} (er : r �
         before_end = open-3 (word_of r.kind) (text_at s r.a) (text_at s r.b) (text_at s r.c) ∙ sym size;
         closed = closed-3 (word_of r.kind) (text_at s r.a) (text_at s r.b) (text_at s r.c) ∙ sym (node-text eg);
         size = size;
-        short = text-short ok;
-        first = lower-ready b.1.1.0;
-        second = lower-ready b.1.0;
-        third = lower-ready b.0;
+        short = text-short known.ready;
+        first = lower-below b.1.1.0;
+        second = lower-below b.1.0;
+        third = lower-below b.0;
         low = b.1.1.0;
         low₂ = b.1.0;
         low₃ = b.0;

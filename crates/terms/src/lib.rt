@@ -1,14 +1,16 @@
 // The terms of a script, written into lent room: the text of a node, and how long it is.
 #![tactic(auto)]
 
-ghost use Rattle.std.specs.Prelude.{◌≡◌, ◌++◌, ◌+◌, ◌≤◌, length};
+ghost use Rattle.std.specs.Prelude.{◌≡◌, ◌++◌, ◌+◌, ◌≤◌, ◌<◌, length};
 ghost use Rattle.lists.specs.Ascii.{ascii};
+ghost use Rattle.layout.specs.Parts.{node_count};
 ghost use Rattle.room.specs.Room.{Wrote};
-ghost use Rattle.terms.specs.Texts.{AcceptedNode, text_at, one_open, two_open, three_open};
+ghost use Rattle.terms.specs.Texts.{NodeRecord, text_at, one_open, two_open, three_open};
 
 use kinds::{Record, Shape};
 use numbers::{NodeNumber, VariableNumber};
 use pieces::{BLANK, CLOSE, CONSTANT_BYTES, OPEN};
+use reading::accepted::Accepted;
 
 // The bytes of a node's text besides its word and its operands, by the number of these.
 const ONE_BYTES: usize = OPEN.len() + BLANK.len() + CLOSE.len();
@@ -17,13 +19,22 @@ const TWO_BYTES: usize = ONE_BYTES + BLANK.len();
 
 const THREE_BYTES: usize = TWO_BYTES + BLANK.len();
 
+// A node's record, and that the node is one of an accepted sheet, by which its text's length is bounded.
+#[tactic(auto, using(crate::proofs::TextLaws::inside))]
+fn node_record(sheet: &Accepted, node: NodeNumber) -> Record
+    requires { node.0 < node_count sheet.now }
+    ensures { NodeRecord sheet.now node.0 result }
+{
+    records::record_at(sheet.bytes(), node)
+}
+
 // The text of a node, to the front of the room; its bytes.
 #[cycle(one_operand_term_three_two)]
-fn term(sheet: &[u8], node: NodeNumber, room: &mut [u8]) -> usize
-    requires { AcceptedNode sheet.now node.0 × (length (text_at sheet.now node.0) ≤ length room.old) }
+fn term(sheet: &Accepted, node: NodeNumber, room: &mut [u8]) -> usize
+    requires { (node.0 < node_count sheet.now) × (length (text_at sheet.now node.0) ≤ length room.old) }
     ensures { Wrote (text_at sheet.now node.0) room.old room.new 0 result }
 {
-    let fields = records::record_at(sheet, node);
+    let fields = node_record(sheet, node);
     let kind = fields.kind;
     match kinds::shape_of(kind) {
         Shape::Wrong => 0,
@@ -47,8 +58,8 @@ fn term(sheet: &[u8], node: NodeNumber, room: &mut [u8]) -> usize
 
 // A blank and the text of an operand, from a place of the room on.
 #[cycle(one_operand_term_three_two)]
-pub fn operand(sheet: &[u8], node: NodeNumber, room: &mut [u8], at: usize) -> usize
-    requires { AcceptedNode sheet.now node.0 × (at + length (ascii " " ++ text_at sheet.now node.0) ≤ length room.old) }
+pub fn operand(sheet: &Accepted, node: NodeNumber, room: &mut [u8], at: usize) -> usize
+    requires { (node.0 < node_count sheet.now) × (at + length (ascii " " ++ text_at sheet.now node.0) ≤ length room.old) }
     ensures { Wrote (ascii " " ++ text_at sheet.now node.0) room.old room.new at result }
 {
     let next = room::put(room, at, &BLANK);
@@ -57,8 +68,8 @@ pub fn operand(sheet: &[u8], node: NodeNumber, room: &mut [u8], at: usize) -> us
 
 // The text of a node with one operand, but for its end.
 #[cycle(one_operand_term_three_two)]
-fn one(sheet: &[u8], fields: Record, room: &mut [u8]) -> usize
-    requires { AcceptedNode sheet.now fields.a × (length (one_open sheet.now fields) ≤ length room.old) }
+fn one(sheet: &Accepted, fields: Record, room: &mut [u8]) -> usize
+    requires { (fields.a < node_count sheet.now) × (length (one_open sheet.now fields) ≤ length room.old) }
     ensures { Wrote (one_open sheet.now fields) room.old room.new 0 result }
 {
     let next = pieces::head(room, fields.kind);
@@ -67,8 +78,8 @@ fn one(sheet: &[u8], fields: Record, room: &mut [u8]) -> usize
 
 // The text of a node with two operands, but for its end: as with the first alone, and the second.
 #[cycle(one_operand_term_three_two)]
-fn two(sheet: &[u8], fields: Record, room: &mut [u8]) -> usize
-    requires { AcceptedNode sheet.now fields.a × AcceptedNode sheet.now fields.b × (length (two_open sheet.now fields) ≤ length room.old) }
+fn two(sheet: &Accepted, fields: Record, room: &mut [u8]) -> usize
+    requires { (fields.a < node_count sheet.now) × (fields.b < node_count sheet.now) × (length (two_open sheet.now fields) ≤ length room.old) }
     ensures { Wrote (two_open sheet.now fields) room.old room.new 0 result }
 {
     let next = one(sheet, fields, room);
@@ -77,8 +88,8 @@ fn two(sheet: &[u8], fields: Record, room: &mut [u8]) -> usize
 
 // The text of a node with three operands, but for its end: as with the first two, and the third.
 #[cycle(one_operand_term_three_two)]
-fn three(sheet: &[u8], fields: Record, room: &mut [u8]) -> usize
-    requires { AcceptedNode sheet.now fields.a × AcceptedNode sheet.now fields.b × AcceptedNode sheet.now fields.c × (length (three_open sheet.now fields) ≤ length room.old) }
+fn three(sheet: &Accepted, fields: Record, room: &mut [u8]) -> usize
+    requires { (fields.a < node_count sheet.now) × (fields.b < node_count sheet.now) × (fields.c < node_count sheet.now) × (length (three_open sheet.now fields) ≤ length room.old) }
     ensures { Wrote (three_open sheet.now fields) room.old room.new 0 result }
 {
     let next = two(sheet, fields, room);
@@ -86,11 +97,11 @@ fn three(sheet: &[u8], fields: Record, room: &mut [u8]) -> usize
 }
 
 // The length of a node's text.
-pub fn term_len(sheet: &[u8], node: NodeNumber) -> usize
-    requires { AcceptedNode sheet.now node.0 }
+pub fn term_len(sheet: &Accepted, node: NodeNumber) -> usize
+    requires { node.0 < node_count sheet.now }
     ensures { result ≡ length (text_at sheet.now node.0) }
 {
-    let fields = records::record_at(sheet, node);
+    let fields = node_record(sheet, node);
     let kind = fields.kind;
     let size = pieces::word_len(kind);
     match kinds::shape_of(kind) {

@@ -1,5 +1,5 @@
 -- The script of an accepted sheet from its lines, with models or without (m), and how long it is. Assumes nothing.
-use Prim.Native.Nat.{ℕ, zero, suc, ◌+◌, ◌≤◌}
+use Prim.Native.Nat.{ℕ, zero, suc, ◌+◌, ◌≤◌, ◌<◌}
 use mathlib.Core.Path.{◌≡◌, refl, sym, ap, ◌∙◌}
 use mathlib.Core.Bool.{Bool, true, false}
 use mathlib.Core.List.{List, [], ◌∷◌, ◌++◌, map, append_assoc, append-nil}
@@ -17,7 +17,7 @@ use Rattle.meaning.specs.Tree.{Tree, neg}
 use Rattle.meaning.specs.Rule.{Variable}
 use Rattle.layout.specs.Limits.{block_bytes, most_nodes}
 use Rattle.layout.specs.Fold.{of_tree}
-use Rattle.layout.specs.Parts.{goal_at, variable_count, variable_at, table, rule_in}
+use Rattle.layout.specs.Parts.{goal_at, node_count, variable_count, variable_at, table, rule_in}
 use Rattle.layout.proofs.FoldLaws.{goal-found}
 use Rattle.header.proofs.HeaderLaws.{block_inside}
 use Rattle.reading.specs.Cascade.{refusal_of}
@@ -28,7 +28,7 @@ use Rattle.wording.specs.Form.{sixteen}
 use Rattle.wording.specs.Script.{only_with, claims, declarations, assertion, further_symbols, values_asked, ended, script}
 use Rattle.lines.specs.Lines.{declaration_line, range_line, further_symbol, values_line, get_value, values_end, LinesSize}
 use Rattle.lines.proofs.LineLaws.{lines-short, values-short}
-use Rattle.terms.specs.Texts.{AcceptedNode, text_at}
+use Rattle.terms.specs.Texts.{text_at}
 use Rattle.terms.proofs.TextLaws.{text-short}
 use Rattle.writer.specs.Frame.{produce_models, set_logic, goal_start, goal_end, exit_line, opening_lines, goal_lines, ending_lines, goal_bytes, frame_bytes, models_bytes}
 use Rattle.writer.specs.Writes.{enough_room}
@@ -136,13 +136,13 @@ module _ (s : List ℕ) (e : refusal_of most_nodes s ≡ none) where
   unfolding text_at
   goal-text = sym (goal-found (text_step literal symbol_text) [] (table s) (accepted-sound s e))
 
-  pub goal-length : length (goal_lines s) ≡ goal_bytes + length (text_at s (goal_at s))
+  pub goal-length : {g : ℕ} → g ≡ goal_at s → length (goal_lines s) ≡ goal_bytes + length (text_at s g)
   unfolding goal_lines
-  goal-length = simp length-append (omega arith)
+  goal-length eg = rw eg (simp length-append (omega arith))
 
-  -- the goal's node
-  pub goal-ready : {n : ℕ} → n ≡ goal_at s → AcceptedNode s n
-  goal-ready g = record { accepted = e; below = omega (arith, (accepted-counted s e).some-node) }
+  -- the goal is a node
+  pub goal-below : {g : ℕ} → g ≡ goal_at s → g < node_count s
+  goal-below eg = omega (arith, (accepted-counted s e).some-node)
 
   -- the first block is there
   pub first_block : block_bytes ≤ length s
@@ -174,18 +174,18 @@ module _ (m : Bool) (s : List ℕ) (e : refusal_of most_nodes s ≡ none) where
   unfolding script opening_lines ending_lines
   script-is = assembled (optioned m) (declared m s) (claimed m s) (asked m s) (ascii "(set-logic QF_UFBV)") (ascii "(check-sat)") (ascii "(exit)") (joined_below (range_line s) (variable_count s)) (negated m s) (with-models m (ascii "(set-option :produce-models true)" ∷ [])) declarations-are ranges-are values-are goal-is
 
-  module _ {v : ℕ} (ev : v ≡ variable_count s) where
-    pub script-from : opening_lines m v ++ joined_below (range_line s) v ++ goal_lines s ++ ending_lines m v ≡ script (sixteen m) (rule_in s)
-    script-from = rw ev script-is
+  module _ {b : List ℕ} (eb : b ≡ s) {v : ℕ} (ev : v ≡ variable_count s) where
+    pub script-from : opening_lines m v ++ joined_below (range_line b) v ++ goal_lines s ++ ending_lines m v ≡ script (sixteen m) (rule_in s)
+    script-from = rw (eb, ev) script-is
 
-    pub script-parts : length (script (sixteen m) (rule_in s)) ≡ length (opening_lines m v) + length (joined_below (range_line s) v) + length (goal_lines s) + length (ending_lines m v)
+    pub script-parts : length (script (sixteen m) (rule_in s)) ≡ length (opening_lines m v) + length (joined_below (range_line b) v) + length (goal_lines s) + length (ending_lines m v)
     script-parts = ap length (sym script-from) ∙ simp length-append (omega arith)
 
-  pub script-length : {v size : ℕ} → v ≡ variable_count s → LinesSize v size → length (script (sixteen m) (rule_in s)) ≡ size + length (text_at s (goal_at s)) + frame_bytes + models_bytes m v
-  script-length {v} ev l = omega (arith, script-parts ev, opening-length m v, goal-length s e, ending-length m v, l.of s)
+  pub script-length : {v size g : ℕ} → v ≡ variable_count s → LinesSize v size → g ≡ goal_at s → length (script (sixteen m) (rule_in s)) ≡ size + length (text_at s g) + frame_bytes + models_bytes m v
+  script-length {v} ev l eg = omega (arith, script-parts refl ev, opening-length m v, goal-length s e eg, ending-length m v, l.of s)
 
   pub script-short : length (script (sixteen m) (rule_in s)) ≤ enough_room
   script-short =
       let c = accepted-counted s e in
       let v = variable_count s in
-      omega (arith, script-parts refl, opening-length m v, goal-length s e, ending-length m v, only-short m produce_models, only-short m (values_line v), lines-short s v, values-short v, text-short (goal-ready s e refl), c.few)
+      omega (arith, script-parts refl refl, opening-length m v, goal-length s e refl, ending-length m v, only-short m produce_models, only-short m (values_line v), lines-short s v, values-short v, text-short (record { accepted = e; below = goal-below s e refl }), c.few)

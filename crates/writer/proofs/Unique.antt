@@ -4,7 +4,7 @@ use mathlib.Core.Path.{◌≡◌, sym, ◌∙◌}
 use mathlib.Core.List.{List}
 use Rattle.layout.specs.Limits.{most_nodes}
 use Rattle.wording.specs.Form.{Form}
-use Rattle.std.specs.Prelude.{Result, Ok, Err}
+use Rattle.std.specs.Prelude.{Result}
 use Rattle.refusals.specs.declared.Refused.{Refused}
 use Rattle.room.proofs.WrittenLaws.{written-injective}
 use Rattle.writer.specs.Writes.{Writes}

@@ -3,7 +3,6 @@ use Prim.Native.Nat.{ℕ, ◌≤◌, ◌<◌}
 use mathlib.Core.Path.{◌≡◌, refl, sym, ap, ◌∙◌}
 use mathlib.Core.List.{List}
 use mathlib.Core.Option.{Option, none, some}
-use native.Mathlib.Nat.{zero-add}
 use native.Mathlib.Omega.{arith}
 use lib.ListN.{length, take, drop, length-append}
 use lib.Seq.{length-take-le}
@@ -29,9 +28,9 @@ module _ (f : Form) (s : List ℕ) where
   refused-with : (before : List ℕ) {a : Result ℕ Refused} {e : Refused} → a ≡ Err e → script_refusal most_nodes f s (length before) ≡ some (told e) → Writes most_nodes f s before a before
   refused-with before p d = let w = fills-refused (script f (rule_in s)) before p d in record { answer = w.answer; room = w.room }
 
-  pub sheet-refused : (before : List ℕ) {a : Result ℕ Refused} {e : Refused} → a ≡ Err e → some (told e) ≡ refusal_of most_nodes s → Writes most_nodes f s before a before
+  pub sheet-refused : (before : List ℕ) {a : Result ℕ Refused} {e : Refused} → a ≡ Err e → refusal_of most_nodes s ≡ some (told e) → Writes most_nodes f s before a before
   unfolding script_refusal
-  sheet-refused before p d = refused-with before p (otherwise-some _ (sym d))
+  sheet-refused before p d = refused-with before p (otherwise-some _ d)
 
   module _ (ok : refusal_of most_nodes s ≡ none) where
     pub room-short : (before : List ℕ) {n : ℕ} → n ≡ length (script f (rule_in s)) → length before < n → Writes most_nodes f s before (Err (record { cause = Room; place = n })) before

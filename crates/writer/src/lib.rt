@@ -2,10 +2,8 @@
 #![tactic(auto)]
 
 ghost use Rattle.std.specs.Prelude.{◌≡◌, ◌+◌, ◌≤◌, length};
-ghost use Rattle.std.proofs.Math.Option.{none};
 ghost use Rattle.layout.specs.Limits.{most_variables, most_nodes};
-ghost use Rattle.layout.specs.Parts.{goal_at, rule_in};
-ghost use Rattle.reading.specs.Cascade.{refusal_of};
+ghost use Rattle.layout.specs.Parts.{rule_in};
 ghost use Rattle.wording.specs.Form.{form_of};
 ghost use Rattle.wording.specs.Script.{only_with, script};
 ghost use Rattle.lines.specs.Lines.{values_line};
@@ -13,8 +11,8 @@ ghost use Rattle.room.specs.Room.{Wrote};
 ghost use Rattle.writer.specs.Frame.{produce_models, opening_lines, goal_lines, ending_lines, models_bytes};
 ghost use Rattle.writer.specs.Writes.{Writes};
 
-use numbers::NodeNumber;
 use pieces::BLANK;
+use reading::accepted::Accepted;
 use refusals::{Cause, Refused};
 use wording::ScriptForm;
 
@@ -61,22 +59,15 @@ fn opening(form: ScriptForm, room: &mut [u8], count: usize) -> usize
     lines::declarations(room, q, count)
 }
 
-// The last node.
-fn goal_node(sheet: &[u8]) -> NodeNumber
-    requires { refusal_of most_nodes sheet.now ≡ none }
-    ensures { result.0 ≡ goal_at sheet.now }
-{
-    NodeNumber((header::node_count(sheet) - 1) as u16)
-}
-
 // The line of the negated goal, and the command behind it.
-fn goal_lines(sheet: &[u8], room: &mut [u8], at: usize) -> usize
-    requires { (refusal_of most_nodes sheet.now ≡ none) × (at + length (goal_lines sheet.now) ≤ length room.old) }
+fn goal_lines(sheet: &Accepted, room: &mut [u8], at: usize) -> usize
+    requires { at + length (goal_lines sheet.now) ≤ length room.old }
     ensures { Wrote (goal_lines sheet.now) room.old room.new at result }
 {
-    let goal = goal_node(sheet);
+    // Called for what it ensures, that the sheet is accepted: so its goal is a node.
+    sheet.bytes();
     let p = room::put(room, at, &GOAL_START);
-    let q = terms::operand(sheet, goal, room, p);
+    let q = terms::operand(sheet, sheet.goal(), room, p);
     room::put(room, q, &GOAL_END)
 }
 
@@ -102,13 +93,14 @@ fn ending(form: ScriptForm, room: &mut [u8], at: usize, count: usize) -> usize
 }
 
 // The script, to the front of the room; its bytes.
-fn put_script(sheet: &[u8], form: ScriptForm, room: &mut [u8]) -> usize
-    requires { (refusal_of most_nodes sheet.now ≡ none) × (length (script (form_of form) (rule_in sheet.now)) ≤ length room.old) }
+fn put_script(sheet: &Accepted, form: ScriptForm, room: &mut [u8]) -> usize
+    requires { length (script (form_of form) (rule_in sheet.now)) ≤ length room.old }
     ensures { Wrote (script (form_of form) (rule_in sheet.now)) room.old room.new 0 result }
 {
-    let count = header::variable_count(sheet);
+    let bytes = sheet.bytes();
+    let count = sheet.variable_count();
     let p = opening(form, room, count);
-    let q = lines::range_lines(sheet, room, p, count);
+    let q = lines::range_lines(bytes, room, p, count);
     let r = goal_lines(sheet, room, q);
     ending(form, room, r, count)
 }
@@ -126,20 +118,22 @@ fn models_len(form: ScriptForm, count: usize) -> usize
 }
 
 // The length of the script.
-fn script_len(sheet: &[u8], form: ScriptForm) -> usize
-    requires { refusal_of most_nodes sheet.now ≡ none }
+fn script_len(sheet: &Accepted, form: ScriptForm) -> usize
     ensures { result ≡ length (script (form_of form) (rule_in sheet.now)) }
 {
-    let count = header::variable_count(sheet);
-    let goal = terms::term_len(sheet, goal_node(sheet));
+    // Called for what it ensures, that the sheet is accepted: so its script is short.
+    sheet.bytes();
+    let count = sheet.variable_count();
+    let goal = terms::term_len(sheet, sheet.goal());
     lines::variables_len(count) + goal + FRAME_BYTES + models_len(form, count)
 }
 
 // The script of an accepted sheet, or refusal 9 at the bytes that it needs.
-fn write_accepted(sheet: &[u8], form: ScriptForm, room: &mut [u8]) -> Result<usize, Refused>
-    requires { refusal_of most_nodes sheet.now ≡ none }
+fn write_accepted(sheet: &Accepted, form: ScriptForm, room: &mut [u8]) -> Result<usize, Refused>
     ensures { Writes most_nodes (form_of form) sheet.now room.old result room.new }
 {
+    // Called for what it ensures, that the sheet is accepted.
+    sheet.bytes();
     let size = script_len(sheet, form);
     if room.len() < size {
         return Err(Refused {
@@ -154,6 +148,6 @@ fn write_accepted(sheet: &[u8], form: ScriptForm, room: &mut [u8]) -> Result<usi
 pub fn write_script(sheet: &[u8], form: ScriptForm, room: &mut [u8]) -> Result<usize, Refused>
     ensures { Writes most_nodes (form_of form) sheet.now room.old result room.new }
 {
-    reading::read(sheet)?;
-    write_accepted(sheet, form, room)
+    let sheet = reading::accepted::accept(sheet)?;
+    write_accepted(&sheet, form, room)
 }

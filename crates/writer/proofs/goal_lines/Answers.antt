@@ -1,22 +1,19 @@
 -- `writer::goal_lines` meets its contract: the lines from their three pieces. Assumes nothing.
-use mathlib.Core.Path.{ap}
+use mathlib.Core.Path.{refl}
 use native.Mathlib.Omega.{arith}
-use lib.ListN.{length}
-use Rattle.terms.specs.Texts.{text_at}
 use Rattle.room.proofs.RoomLaws.{wrote_as, chain3}
-use Rattle.writer.proofs.ScriptLaws.{goal-ready, goal-length, goal-from}
+use Rattle.writer.proofs.ScriptLaws.{goal-below, goal-length, goal-from}
 use Rattle.writer.proofs.goal_lines.Goals as goal
 
 pub put-p-requires : goal.put-p-requires
-put-p-requires c = omega (arith, goal-length _ c.requires.0)
+put-p-requires c = omega (arith, goal-length _ c.bytes.ensures.accepted refl)
 
 pub operand-q-requires : goal.operand-q-requires
-operand-q-requires c = let g = c.goal_node-goal.ensures in (goal-ready _ c.requires.0 g, omega (arith, goal-length _ c.requires.0, ap (λ n. length (text_at c.args.sheet.now n)) g))
+operand-q-requires c = let g = c.goal.ensures in (goal-below _ c.bytes.ensures.accepted g, omega (arith, goal-length _ c.bytes.ensures.accepted g))
 
 pub put-requires : goal.put-requires
-put-requires c =
-    omega (arith, goal-length _ c.requires.0, ap (λ n. length (text_at c.args.sheet.now n)) c.goal_node-goal.ensures)
+put-requires c = omega (arith, goal-length _ c.bytes.ensures.accepted c.goal.ensures)
 
 pub returns : goal.returns
 returns c =
-    wrote_as (chain3 (omega (arith, goal-length _ c.requires.0, ap (λ n. length (text_at c.args.sheet.now n)) c.goal_node-goal.ensures)) c.put-p.ensures c.operand-q.ensures c.put.ensures) (goal-from _ c.goal_node-goal.ensures)
+    wrote_as (chain3 (omega (arith, goal-length _ c.bytes.ensures.accepted c.goal.ensures)) c.put-p.ensures c.operand-q.ensures c.put.ensures) (goal-from _ c.goal.ensures)

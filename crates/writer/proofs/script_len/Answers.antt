@@ -1,36 +1,30 @@
 -- `writer::script_len` meets its contract: the parts of the script one by one. Assumes nothing.
-use mathlib.Core.Path.{ap}
 use native.Mathlib.Omega.{arith}
-use lib.ListN.{length}
 use Rattle.reading.proofs.RuleLaws.{accepted-counted}
-use Rattle.terms.specs.Texts.{text_at}
-use Rattle.writer.proofs.ScriptLaws.{first_block, goal-ready, script-length, script-short}
+use Rattle.writer.proofs.ScriptLaws.{goal-below, script-length, script-short}
 use Rattle.writer.proofs.script_len.Goals as goal
 
-pub variable_count-count-requires : goal.variable_count-count-requires
-variable_count-count-requires c = first_block _ c.requires
-
 pub term_len-goal-requires : goal.term_len-goal-requires
-term_len-goal-requires c = goal-ready _ c.requires c.goal_node.ensures
+term_len-goal-requires c = goal-below _ c.bytes.ensures.accepted c.goal.ensures
 
 pub variables_len-requires : goal.variables_len-requires
-variables_len-requires c = omega (arith, (accepted-counted _ c.requires).few)
+variables_len-requires c = omega (arith, (accepted-counted _ c.bytes.ensures.accepted).few)
 
 pub overflow_add-result : goal.overflow_add-result
 overflow_add-result c =
-    omega (arith, script-length c.args.form.models _ c.requires c.variable_count-count.ensures c.variables_len.ensures, ap (λ n. length (text_at c.args.sheet.now n)) c.goal_node.ensures, script-short c.args.form.models _ c.requires)
+    omega (arith, script-length c.args.form.models _ c.bytes.ensures.accepted c.variable_count-count.ensures c.variables_len.ensures c.goal.ensures, script-short c.args.form.models _ c.bytes.ensures.accepted)
 
 pub overflow_add-result-2 : goal.overflow_add-result-2
 overflow_add-result-2 c =
-    omega (arith, script-length c.args.form.models _ c.requires c.variable_count-count.ensures c.variables_len.ensures, ap (λ n. length (text_at c.args.sheet.now n)) c.goal_node.ensures, script-short c.args.form.models _ c.requires)
+    omega (arith, script-length c.args.form.models _ c.bytes.ensures.accepted c.variable_count-count.ensures c.variables_len.ensures c.goal.ensures, script-short c.args.form.models _ c.bytes.ensures.accepted)
 
 pub models_len-requires : goal.models_len-requires
-models_len-requires c = omega (arith, (accepted-counted _ c.requires).few)
+models_len-requires c = omega (arith, (accepted-counted _ c.bytes.ensures.accepted).few)
 
 pub overflow_add-result-3 : goal.overflow_add-result-3
 overflow_add-result-3 c =
-    omega (arith, script-length c.args.form.models _ c.requires c.variable_count-count.ensures c.variables_len.ensures, ap (λ n. length (text_at c.args.sheet.now n)) c.goal_node.ensures, script-short c.args.form.models _ c.requires)
+    omega (arith, script-length c.args.form.models _ c.bytes.ensures.accepted c.variable_count-count.ensures c.variables_len.ensures c.goal.ensures, script-short c.args.form.models _ c.bytes.ensures.accepted)
 
 pub returns : goal.returns
 returns c =
-    omega (arith, script-length c.args.form.models _ c.requires c.variable_count-count.ensures c.variables_len.ensures, ap (λ n. length (text_at c.args.sheet.now n)) c.goal_node.ensures)
+    omega (arith, script-length c.args.form.models _ c.bytes.ensures.accepted c.variable_count-count.ensures c.variables_len.ensures c.goal.ensures)
