@@ -1,28 +1,35 @@
 -- Laws of a room with a text in it: one more byte, a text behind another, and a part that was lent. Assumes nothing.
-use Prim.Native.Nat.{ℕ, ◌+◌, ◌-◌, ◌≤◌, ◌<◌}
+use Prim.Native.Nat.{ℕ, suc, ◌+◌, ◌-◌, ◌≤◌, ◌<◌}
 use mathlib.Core.Path.{◌≡◌, refl, sym, ap, ◌∙◌}
 use mathlib.Core.List.{List, [], ◌++◌, append_assoc, append-nil}
 use native.Mathlib.Nat.{le_refl, zero-add, add-zero, add_assoc}
+use native.Mathlib.Numerals.{add-one}
 use native.Mathlib.Omega.{arith}
 use borrow.Rule.Slice.PartMut.{put_mid}
-use lib.ListN.{length, take, drop, length-append, length-drop, drop_of_length-le}
-use lib.Seq.{take_all, take-length, take_at, drop_at, drop-drop, length-take-le, paste-zero, length-paste}
+use lib.ListN.{length, take, drop, set, get_or, length-append, length-drop, drop_of_length-le}
+use lib.Seq.{take_all, take-length, take_at, drop_at, drop-drop, length-take-le, paste-zero, paste-suc, length-paste}
 use Rattle.lists.specs.Joined.{joined_below}
 use Rattle.lists.proofs.JoinedLaws.{joined-none, joined-more, length-within}
 use Rattle.room.specs.Room.{over, within, Wrote}
 
--- ---- a text copied to place at
-pub copied-within : (s room : List ℕ) {part : List ℕ} (at n : ℕ) → part ≡ s → n ≡ length s → put_mid at n room part ≡ within s at room
+-- ---- a loop that copies s from place at on
+pub within_none : (s room : List ℕ) (at : ℕ) → room ≡ within (take 0 s) at room
 unfolding within
-copied-within s room at n e d = rw (e, d, drop-drop) (sym (append_assoc (take at room) s (drop (at + length s) room)))
+within_none s room at = paste-zero room at s
 
-pub wrote-copied : (s room : List ℕ) {part : List ℕ} (at : ℕ) → part ≡ s → Wrote s room (put_mid at (at + length s - at) room part) at (at + length s)
-wrote-copied s room at e = record { place = refl; room = copied-within s room at _ e (omega arith) }
+pub within-turn : (s before : List ℕ) {room : List ℕ} (at i : ℕ) → room ≡ within (take i s) at before → i < length s → at + length s ≤ length before → set room (at + i) (get_or s i 0) ≡ within (take (i + 1) s) at before
+unfolding within
+within-turn s before at i e h l =
+    let n : length (take i s) ≡ i = length-take-le i s (omega arith) in
+    let m : length (take (suc i) s) ≡ suc i = length-take-le (suc i) s h in
+    rw (e, n, add-one, m) (paste-suc before at s i 0 (omega arith) h)
+
+pub wrote-all : (s before : List ℕ) {after : List ℕ} (at i : ℕ) → after ≡ within (take i s) at before → i ≡ length s → Wrote s before after at (at + length s)
+wrote-all s before at i e d = record { place = refl; room = e ∙ ap (λ (t : List ℕ). within t at before) (take_all i s (omega arith)) }
 
 -- ---- texts one behind another
 pub wrote_none : (room : List ℕ) (at : ℕ) → Wrote [] room room at at
-unfolding within
-wrote_none room at = record { place = sym (add-zero at); room = paste-zero room at [] }
+wrote_none room at = record { place = sym (add-zero at); room = within_none [] room at }
 
 pub wrote_as : {t u before after : List ℕ} {at r : ℕ} → Wrote t before after at r → t ≡ u → Wrote u before after at r
 wrote_as w e = rw (← e) w

@@ -9,7 +9,9 @@ pub fn put(room: &mut [u8], at: usize, text: &[u8]) -> usize
     requires { at + length text.now ≤ length room.old }
     ensures { Wrote text.now room.old room.new at result }
 {
-    let next = at + text.len();
-    room[at..next].copy_from_slice(text);
-    next
+    // No copy_from_slice: it asks for memmove, and the archive needs memcpy and memset alone.
+    for (i, byte) in text.iter().enumerate() {
+        room[at + i] = *byte;
+    }
+    at + text.len()
 }
