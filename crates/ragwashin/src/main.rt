@@ -131,7 +131,7 @@ fn gives_lines(job: Job) -> bool
     matches!(job, Job::Answer(request) if is_line(request))
 }
 
-// Writes all the bytes; stops at the first write that fails or takes nothing.
+// Writes all the bytes; stops at the first write that fails or takes nothing. That of std tries again after an interruption, and has words of its own for nothing taken.
 fn write_all<W: Write>(to: &mut W, bytes: &[u8]) -> Result<(), Error>
     ensures { OnOk result (Appends (W.contents to.old) (W.contents to.new) bytes.now) }
 {
@@ -167,11 +167,7 @@ fn has_ended<R: Read>(from: &mut R, size: usize, most: usize) -> Result<bool, Er
     ensures most { size ≡ most → result ≡ Ok true }
     ensures end { IfOk result (HasEnded (R.remaining from.old) (R.remaining from.new) size most) }
 {
-    if size == most {
-        return Ok(true);
-    }
-    let size = from.read(&mut [0u8; 1])?;
-    Ok(size == 0)
+    Ok(size == most || from.read(&mut [0u8; 1])? == 0)
 }
 
 // Reads an input to its end, or as much of it as the room holds.
