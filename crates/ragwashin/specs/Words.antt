@@ -1,5 +1,5 @@
 -- What the program's first word asks for, and which files have texts in them.
-use Rattle.std.specs.Prelude.{ℕ, ◌-◌, Bool, true, false, List, length, drop}
+use Rattle.std.specs.Prelude.{ℕ, ◌-◌, Bool, true, false, List, length, drop, Option, None, Some}
 use Rattle.lists.specs.Ascii.{ascii}
 use Rattle.lists.specs.Names.{same_bytes}
 use Rattle.answers.specs.declared.Request.{Request}
@@ -7,22 +7,22 @@ use Rattle.answers.specs.declared.Request.TheVariants.{Read, Script, Ask, Check,
 use Rattle.ragwashin.specs.declared.Job.{Job}
 use Rattle.ragwashin.specs.declared.Job.TheVariants.{Make, Text, Answer}
 use Rattle.ragwashin.specs.declared.Word.{Word}
-use Rattle.ragwashin.specs.declared.Word.TheVariants.{Asks, Reply, Help, Unknown}
+use Rattle.ragwashin.specs.declared.Word.TheVariants.{Asks, Reply, Help}
 
 -- this where it is meant, or else the other
-abbrev pub meant : Bool → Word → Word → Word
-meant true this other = this
+abbrev pub meant : Bool → Word → Option Word → Option Word
+meant true this other = Some this
 meant false this other = other
 
 -- what the first word means: an answer, or something else
-abbrev pub other_word : List ℕ → Word
+abbrev pub other_word : List ℕ → Option Word
 other_word t =
     meant (same_bytes t (ascii "make")) (Asks Make) (
     meant (same_bytes t (ascii "text")) (Asks Text) (
     meant (same_bytes t (ascii "reply")) Reply (
-    meant (same_bytes t (ascii "--help")) Help Unknown)))
+    meant (same_bytes t (ascii "--help")) Help None)))
 
-abbrev pub word_of : List ℕ → Word
+abbrev pub word_of : List ℕ → Option Word
 word_of t =
     meant (same_bytes t (ascii "read")) (Asks (Answer Read)) (
     meant (same_bytes t (ascii "script")) (Asks (Answer Script)) (

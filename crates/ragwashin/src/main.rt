@@ -1,12 +1,11 @@
 // Answers requests about sheets, in files or on standard input, and about solvers' replies, and makes sheets of texts and texts of sheets; with no word it writes the script.
 #![tactic(auto)]
 
-ghost use Rattle.std.specs.Prelude.{◌≡◌, ◌≤◌, true, false, length, take, IfSome, OnOk};
+ghost use Rattle.std.specs.Prelude.{◌≡◌, ◌≤◌, true, false, length, take, Ok, IfSome, IfOk, OnOk};
 ghost use Rattle.std.specs.Io.KnownBytes.{Appends, Consumes};
 ghost use Rattle.io.specs.Counts.{IsPrefixLen};
-ghost use Rattle.lists.specs.Names.{same_bytes};
 ghost use Rattle.ragwashin.specs.Inputs.{HasEnded, HasRead};
-ghost use Rattle.ragwashin.specs.Words.{meant, other_word, word_of, is_line, gives_lines, is_text};
+ghost use Rattle.ragwashin.specs.Words.{word_of, is_line, gives_lines, is_text};
 
 use answers::Request;
 use layout::MOST_SHEET_BYTES;
@@ -91,90 +90,48 @@ enum Job {
     Answer(Request),
 }
 
-// What the first word is.
+// What the first word asks for.
 #[derive(Clone, Copy)]
 enum Word {
-    Unknown,
     Help,
     Reply,
     Asks(Job),
 }
 
-// What a text means: this, where it is the word, or else what it means without that word.
-fn meaning(text: &[u8], word: &[u8], this: Word, other: Word) -> Word
-    ensures { result ≡ meant (same_bytes text.now word.now) this other }
-{
-    if records::same_bytes(text, word) {
-        return this;
-    }
-    other
-}
+const WORDS: [(&[u8], Word); 9] = [
+    (b"read", Word::Asks(Job::Answer(Request::Read))),
+    (b"script", Word::Asks(Job::Answer(Request::Script))),
+    (b"ask", Word::Asks(Job::Answer(Request::Ask))),
+    (b"check", Word::Asks(Job::Answer(Request::Check))),
+    (b"tally", Word::Asks(Job::Answer(Request::Tally))),
+    (b"make", Word::Asks(Job::Make)),
+    (b"text", Word::Asks(Job::Text)),
+    (b"reply", Word::Reply),
+    (b"--help", Word::Help),
+];
 
-// What a text means that is no word for an answer.
-fn other_word(text: &[u8]) -> Word
-    ensures { result ≡ other_word text.now }
-{
-    let help = meaning(text, b"--help", Word::Help, Word::Unknown);
-    let reply = meaning(text, b"reply", Word::Reply, help);
-    let printed = meaning(text, b"text", Word::Asks(Job::Text), reply);
-    meaning(text, b"make", Word::Asks(Job::Make), printed)
-}
-
-fn word_of(text: &[u8]) -> Word
+// What a text means; nothing where it is no word.
+fn word_of(text: &[u8]) -> Option<Word>
     ensures { result ≡ word_of text.now }
 {
-    let other = other_word(text);
-    let tally = meaning(
-        text,
-        b"tally",
-        Word::Asks(Job::Answer(Request::Tally)),
-        other,
-    );
-    let check = meaning(
-        text,
-        b"check",
-        Word::Asks(Job::Answer(Request::Check)),
-        tally,
-    );
-    let ask = meaning(text, b"ask", Word::Asks(Job::Answer(Request::Ask)), check);
-    let script = meaning(
-        text,
-        b"script",
-        Word::Asks(Job::Answer(Request::Script)),
-        ask,
-    );
-    meaning(
-        text,
-        b"read",
-        Word::Asks(Job::Answer(Request::Read)),
-        script,
-    )
+    let (_, word) = WORDS.iter().find(|(name, _)| text == *name)?;
+    Some(*word)
 }
 
 // Answers of one line can follow one another; scripts cannot.
 fn is_line(request: Request) -> bool
     ensures { result ≡ is_line request }
 {
-    match request {
-        Request::Read => true,
-        Request::Script => false,
-        Request::Ask => false,
-        Request::Check => true,
-        Request::Tally => true,
-    }
+    matches!(request, Request::Read | Request::Check | Request::Tally)
 }
 
 fn gives_lines(job: Job) -> bool
     ensures { result ≡ gives_lines job }
 {
-    match job {
-        Job::Make => false,
-        Job::Text => false,
-        Job::Answer(request) => is_line(request),
-    }
+    matches!(job, Job::Answer(request) if is_line(request))
 }
 
-// Writes all the bytes; stops at the first write that fails or takes nothing.
+// Writes all the bytes; stops at the first write that fails or takes nothing. That of std tries again after an interruption, and has words of its own for nothing taken.
 fn write_all<W: Write>(to: &mut W, bytes: &[u8]) -> Result<(), Error>
     ensures { OnOk result (Appends (W.contents to.old) (W.contents to.new) bytes.now) }
 {
@@ -189,23 +146,41 @@ fn write_all<W: Write>(to: &mut W, bytes: &[u8]) -> Result<(), Error>
     Ok(())
 }
 
-// Reads until the room is full, the input ends or a read fails, whose reason is kept.
-fn read_full<R: Read>(from: &mut R, room: &mut [u8], reason: &mut Error) -> usize
-    ensures prefix_len { IsPrefixLen result room.new }
-    ensures bytes { Consumes (R.remaining from.old) (R.remaining from.new) (take result room.new) }
+// Reads until the room is full, the input ends or a read fails: how many bytes, and the reason where one failed.
+fn read_full<R: Read>(from: &mut R, room: &mut [u8]) -> (usize, Result<(), Error>)
+    ensures prefix_len { IsPrefixLen result.0 room.new }
+    ensures bytes { Consumes (R.remaining from.old) (R.remaining from.new) (take result.0 room.new) }
 {
     let mut done = 0;
     while done < room.len() {
         match from.read(&mut room[done..]) {
-            Ok(0) => return done,
+            Ok(0) => return (done, Ok(())),
             Ok(n) => done += n,
-            Err(e) => {
-                *reason = e;
-                return done;
-            }
+            Err(reason) => return (done, Err(reason)),
         }
     }
-    done
+    (done, Ok(()))
+}
+
+// Only a read that gives 0 bytes tells that an input has ended, and not that a read of it failed; of a longer one no more than the most is looked at.
+fn has_ended<R: Read>(from: &mut R, size: usize, most: usize) -> Result<bool, Error>
+    ensures most { size ≡ most → result ≡ Ok true }
+    ensures end { IfOk result (HasEnded (R.remaining from.old) (R.remaining from.new) size most) }
+{
+    Ok(size == most || from.read(&mut [0u8; 1])? == 0)
+}
+
+// Reads an input to its end, or as much of it as the room holds.
+fn read_all<R: Read>(from: &mut R, room: &mut [u8]) -> Result<usize, Error>
+    ensures prefix_len { IfOk result (λ n. IsPrefixLen n room.new) }
+    ensures bytes { IfOk result (λ n. HasRead (R.remaining from.old) (take n room.new) (length room.new)) }
+{
+    let (size, reason) = read_full(from, room);
+    if has_ended(from, size, room.len())? {
+        return Ok(size);
+    }
+    reason?;
+    Err(Error::from_raw_os_error(NO_REASON))
 }
 
 // Writes a part of a message. Where that fails, nobody can be told.
@@ -215,10 +190,9 @@ fn say(rt: &HostRuntime, words: &[u8]) {
 
 // The words of a reason, behind which std puts its number.
 fn words_of(reason: &str) -> &str {
-    match reason.rsplit_once(" (os error ") {
-        Some((words, _)) => words,
-        None => reason,
-    }
+    reason
+        .rsplit_once(" (os error ")
+        .map_or(reason, |(words, _)| words)
 }
 
 // Ends a message: what failed, and the system's reason.
@@ -264,8 +238,7 @@ fn say_one(rt: &HostRuntime, words: &[u8]) {
 
 fn say_one_file(rt: &HostRuntime, job: Job) {
     match job {
-        Job::Make => say_one(rt, b"make and text"),
-        Job::Text => say_one(rt, b"make and text"),
+        Job::Make | Job::Text => say_one(rt, b"make and text"),
         Job::Answer(_) => say_one(rt, b"script and ask"),
     }
 }
@@ -293,178 +266,138 @@ fn say_long_reply(rt: &HostRuntime) {
     );
 }
 
-// A name stands before an answer where several files are named.
-fn write_line(rt: &HostRuntime, name: &[u8], is_named: bool, text: &[u8]) -> Result<(), Error> {
-    let mut out = rt.stdout();
-    if is_named {
-        write_all(&mut out, name)?;
-        write_all(&mut out, b": ")?;
-    }
-    write_all(&mut out, text)
-}
-
-// Only a read that gives 0 bytes tells that an input has ended, and not that a read of it failed; of a longer one no more than the most is looked at.
-fn has_ended<R: Read>(from: &mut R, size: usize, most: usize, reason: &mut Error) -> bool
-    ensures most { size ≡ most → result ≡ true }
-    ensures end { HasEnded (R.remaining from.old) (R.remaining from.new) size most result }
-{
-    if size == most {
-        return true;
-    }
-    let mut next = [0u8; 1];
-    match from.read(&mut next) {
-        Ok(n) => n == 0,
-        Err(e) => {
-            *reason = e;
-            false
-        }
-    }
-}
-
-// An input's sheet: whether there is one, and how many bytes it has.
-#[derive(Clone, Copy)]
-struct Input {
-    is_taken: bool,
-    size: usize,
-}
-
 // Whether a file of this name has a text in it.
 fn is_text(name: &[u8]) -> bool
     ensures { result ≡ is_text name.now }
 {
-    if name.len() < 5 {
-        return false;
-    }
-    records::same_bytes(&name[name.len() - 5..], b".rule")
+    name.ends_with(b".rule")
 }
 
-// Writes an answer, or says why it can't.
-fn tell(rt: &HostRuntime, name: &[u8], is_named: bool, text: &[u8]) {
-    if let Err(reason) = write_line(rt, name, is_named, text) {
-        say_failed(rt, name, b"its answer cannot be written", reason);
-    }
-}
-
-// Reads a sheet.
-fn read_sheet<R: Read>(rt: &HostRuntime, from: &mut R, name: &[u8], sheet: &mut [u8]) -> Input
-    ensures prefix_len { IsPrefixLen result.size sheet.new }
-    ensures bytes { result.is_taken ≡ true → HasRead (R.remaining from.old) (take result.size sheet.new) (length sheet.new) }
-{
-    let mut reason = Error::from_raw_os_error(NO_REASON);
-    let size = read_full(from, sheet, &mut reason);
-    let is_read = has_ended(from, size, sheet.len(), &mut reason);
-    if !is_read {
-        say_failed(rt, name, b"cannot be read", reason);
-    }
-    Input {
-        is_taken: is_read,
-        size: size,
-    }
-}
-
-// Makes the sheet of a text, or answers with the line of its refusal.
-fn make_sheet(rt: &HostRuntime, text: &[u8], name: &[u8], is_named: bool, sheet: &mut [u8]) -> Input
-    ensures { IsPrefixLen result.size sheet.new }
-{
-    let mut line = [0u8; LONGEST_LINE];
-    let source = sources::sheet_of(text, sheet, &mut line);
-    if 0 < source.line {
-        tell(rt, name, is_named, &line[..source.line]);
-    }
-    Input {
-        is_taken: source.line == 0,
-        size: source.sheet,
-    }
-}
-
-// Reads a text, and makes its sheet. The text's room is given back before the sheet is answered for.
-#[inline(never)]
-fn read_text(
-    rt: &HostRuntime,
-    from: &mut impl Read,
-    name: &[u8],
+// An input, by its name, and what is told about it; where several files are named, the name stands before the answer.
+#[derive(Clone, Copy)]
+struct Input<'a> {
+    rt: &'a HostRuntime,
+    name: &'a [u8],
     is_named: bool,
-    sheet: &mut [u8],
-) -> Input
-    ensures { IsPrefixLen result.size sheet.new }
-{
-    let mut text = [0u8; MOST_TEXT_READ];
-    let mut reason = Error::from_raw_os_error(NO_REASON);
-    let size = read_full(from, &mut text, &mut reason);
-    if !has_ended(from, size, MOST_TEXT_READ, &mut reason) {
-        say_failed(rt, name, b"cannot be read", reason);
-        return Input {
-            is_taken: false,
-            size: 0,
-        };
-    }
-    if MOST_TEXT < size {
-        say_long_text(rt, name);
-        return Input {
-            is_taken: false,
-            size: 0,
-        };
-    }
-    make_sheet(rt, &text[..size], name, is_named, sheet)
 }
 
-// Takes the sheet that a file has, or that its text makes.
-fn take_sheet<R: Read>(
-    rt: &HostRuntime,
-    from: &mut R,
-    name: &[u8],
-    is_named: bool,
-    sheet: &mut [u8],
-) -> Input
-    ensures prefix_len { IsPrefixLen result.size sheet.new }
-    ensures bytes { is_text name.now ≡ false → result.is_taken ≡ true → HasRead (R.remaining from.old) (take result.size sheet.new) (length sheet.new) }
-{
-    if is_text(name) {
-        return read_text(rt, from, name, is_named, sheet);
+impl<'a> Input<'a> {
+    // The one input that is asked about.
+    fn lone(rt: &'a HostRuntime, name: &'a [u8]) -> Input<'a> {
+        Input {
+            rt,
+            name,
+            is_named: false,
+        }
     }
-    read_sheet(rt, from, name, sheet)
-}
 
-// Answers one input.
-#[inline(never)]
-fn answer(rt: &HostRuntime, request: Request, from: &mut impl Read, name: &[u8], is_named: bool) {
-    let mut sheet = [0u8; MOST_READ];
-    let input = take_sheet(rt, from, name, is_named, &mut sheet);
-    if input.is_taken {
-        let mut room = [0u8; ENOUGH_ROOM];
-        let length = answers::answer(request, &sheet[..input.size], &mut room);
-        tell(rt, name, is_named, &room[..length]);
+    fn write_line(self, text: &[u8]) -> Result<(), Error> {
+        let mut out = self.rt.stdout();
+        if self.is_named {
+            write_all(&mut out, self.name)?;
+            write_all(&mut out, b": ")?;
+        }
+        write_all(&mut out, text)
     }
-}
 
-// Writes the sheet of a text.
-#[inline(never)]
-fn write_sheet(rt: &HostRuntime, from: &mut impl Read, name: &[u8]) {
-    let mut sheet = [0u8; MOST_READ];
-    let input = read_text(rt, from, name, false, &mut sheet);
-    if input.is_taken {
-        tell(rt, name, false, &sheet[..input.size]);
+    // Writes an answer, or says why it can't.
+    fn tell(self, text: &[u8]) {
+        if let Err(reason) = self.write_line(text) {
+            say_failed(self.rt, self.name, b"its answer cannot be written", reason);
+        }
     }
-}
 
-// Writes the text of a sheet.
-#[inline(never)]
-fn write_text(rt: &HostRuntime, from: &mut impl Read, name: &[u8]) {
-    let mut sheet = [0u8; MOST_READ];
-    let input = read_sheet(rt, from, name, &mut sheet);
-    if input.is_taken {
-        let mut room = [0u8; LONGEST_TEXT];
-        let length = sources::text_answer(&sheet[..input.size], &mut room);
-        tell(rt, name, false, &room[..length]);
+    // Reads a sheet, a text or a reply, or says why it can't.
+    fn read<R: Read>(self, from: &mut R, room: &mut [u8]) -> Option<usize>
+        ensures prefix_len { IfSome result (λ n. IsPrefixLen n room.new) }
+        ensures bytes { IfSome result (λ n. HasRead (R.remaining from.old) (take n room.new) (length room.new)) }
+    {
+        match read_all(from, room) {
+            Ok(size) => Some(size),
+            Err(reason) => {
+                say_failed(self.rt, self.name, b"cannot be read", reason);
+                None
+            }
+        }
     }
-}
 
-// Does what is asked with one input.
-fn work(rt: &HostRuntime, job: Job, from: &mut impl Read, name: &[u8], is_named: bool) {
-    match job {
-        Job::Make => write_sheet(rt, from, name),
-        Job::Text => write_text(rt, from, name),
-        Job::Answer(request) => answer(rt, request, from, name, is_named),
+    // Makes the sheet of a text, or answers with the line of its refusal.
+    fn make_sheet(self, text: &[u8], sheet: &mut [u8]) -> Option<usize>
+        ensures { IfSome result (λ n. IsPrefixLen n sheet.new) }
+    {
+        let mut line = [0u8; LONGEST_LINE];
+        match sources::sheet_of(text, sheet, &mut line) {
+            Ok(size) => Some(size),
+            Err(size) => {
+                self.tell(&line[..size]);
+                None
+            }
+        }
+    }
+
+    // Reads a text, and makes its sheet. The text's room is given back before the sheet is answered for.
+    #[inline(never)]
+    fn read_text(self, from: &mut impl Read, sheet: &mut [u8]) -> Option<usize>
+        ensures { IfSome result (λ n. IsPrefixLen n sheet.new) }
+    {
+        let mut text = [0u8; MOST_TEXT_READ];
+        let size = self.read(from, &mut text)?;
+        if MOST_TEXT < size {
+            say_long_text(self.rt, self.name);
+            return None;
+        }
+        self.make_sheet(&text[..size], sheet)
+    }
+
+    // Takes the sheet that a file has, or that its text makes.
+    fn take_sheet<R: Read>(self, from: &mut R, sheet: &mut [u8]) -> Option<usize>
+        ensures prefix_len { IfSome result (λ n. IsPrefixLen n sheet.new) }
+        ensures bytes { is_text self.entry.name.now ≡ false → IfSome result (λ n. HasRead (R.remaining from.old) (take n sheet.new) (length sheet.new)) }
+    {
+        if is_text(self.name) {
+            return self.read_text(from, sheet);
+        }
+        self.read(from, sheet)
+    }
+
+    // Answers it.
+    #[inline(never)]
+    fn answer(self, request: Request, from: &mut impl Read) {
+        let mut sheet = [0u8; MOST_READ];
+        if let Some(size) = self.take_sheet(from, &mut sheet) {
+            let mut room = [0u8; ENOUGH_ROOM];
+            let length = answers::answer(request, &sheet[..size], &mut room);
+            self.tell(&room[..length]);
+        }
+    }
+
+    // Writes the sheet of a text.
+    #[inline(never)]
+    fn write_sheet(self, from: &mut impl Read) {
+        let mut sheet = [0u8; MOST_READ];
+        if let Some(size) = self.read_text(from, &mut sheet) {
+            self.tell(&sheet[..size]);
+        }
+    }
+
+    // Writes the text of a sheet.
+    #[inline(never)]
+    fn write_text(self, from: &mut impl Read) {
+        let mut sheet = [0u8; MOST_READ];
+        if let Some(size) = self.read(from, &mut sheet) {
+            let mut room = [0u8; LONGEST_TEXT];
+            let length = sources::text_answer(&sheet[..size], &mut room);
+            self.tell(&room[..length]);
+        }
+    }
+
+    // Does what is asked with it.
+    fn work(self, job: Job, from: &mut impl Read) {
+        match job {
+            Job::Make => self.write_sheet(from),
+            Job::Text => self.write_text(from),
+            Job::Answer(request) => self.answer(request, from),
+        }
     }
 }
 
@@ -493,10 +426,8 @@ fn argument(rt: &HostRuntime, place: usize, room: &mut [u8]) -> Option<usize>
 
 // Opens a file to read it. A path of std's is text.
 fn open_read(rt: &HostRuntime, name: &[u8]) -> Result<File, Error> {
-    match from_utf8(name) {
-        Ok(path) => File::open(rt, path),
-        Err(_) => Err(Error::from_raw_os_error(NO_UTF8)),
-    }
+    let path = from_utf8(name).map_err(|_| Error::from_raw_os_error(NO_UTF8))?;
+    File::open(rt, path)
 }
 
 // Opens the file that an argument names, or says why it can't.
@@ -519,7 +450,12 @@ fn work_on_file(rt: &HostRuntime, job: Job, place: usize, is_named: bool) {
     let Some(mut file) = open_argument(rt, &path[..size]) else {
         return;
     };
-    work(rt, job, &mut file, &path[..size], is_named);
+    let input = Input {
+        rt,
+        name: &path[..size],
+        is_named,
+    };
+    input.work(job, &mut file);
 }
 
 // Works on each file up to the last argument, whatever became of those before it.
@@ -531,7 +467,7 @@ fn work_on_files(rt: &HostRuntime, job: Job, arguments: usize) {
 
 fn work_on_all(rt: &HostRuntime, job: Job, arguments: usize) {
     if arguments <= FIRST_FILE {
-        work(rt, job, &mut rt.stdin(), b"standard input", false);
+        Input::lone(rt, b"standard input").work(job, &mut rt.stdin());
     } else if arguments == FIRST_FILE + 1 {
         work_on_file(rt, job, FIRST_FILE, false);
     } else if gives_lines(job) {
@@ -544,20 +480,18 @@ fn work_on_all(rt: &HostRuntime, job: Job, arguments: usize) {
 // Judges the reply that an open file has.
 #[inline(never)]
 fn judge(rt: &HostRuntime, sheet: &[u8], from: &mut impl Read) {
+    let input = Input::lone(rt, b"the reply");
     let mut reply = [0u8; MOST_REPLY_READ];
-    let mut reason = Error::from_raw_os_error(NO_REASON);
-    let size = read_full(from, &mut reply, &mut reason);
-    if !has_ended(from, size, MOST_REPLY_READ, &mut reason) {
-        say_failed(rt, b"the reply", b"cannot be read", reason);
+    let Some(size) = input.read(from, &mut reply) else {
         return;
-    }
+    };
     if MOST_REPLY < size {
         say_long_reply(rt);
         return;
     }
     let mut room = [0u8; ENOUGH_ROOM];
     let length = answers::reply_answer(sheet, &reply[..size], &mut room);
-    tell(rt, b"the reply", false, &room[..length]);
+    input.tell(&room[..length]);
 }
 
 // Opens the file with the reply.
@@ -580,34 +514,35 @@ fn judge_reply(rt: &HostRuntime, sheet: &[u8], arguments: usize) {
 }
 
 // Takes the sheet that is replied to.
-fn take_replied<R: Read>(rt: &HostRuntime, from: &mut R, name: &[u8], sheet: &mut [u8]) -> Input
-    ensures prefix_len { IsPrefixLen result.size sheet.new }
-    ensures bytes { is_text name.now ≡ false → result.is_taken ≡ true → HasRead (R.remaining from.old) (take result.size sheet.new) (length sheet.new) }
+fn take_replied<R: Read>(
+    rt: &HostRuntime,
+    from: &mut R,
+    name: &[u8],
+    sheet: &mut [u8],
+) -> Option<usize>
+    ensures prefix_len { IfSome result (λ n. IsPrefixLen n sheet.new) }
+    ensures bytes { is_text name.now ≡ false → IfSome result (λ n. HasRead (R.remaining from.old) (take n sheet.new) (length sheet.new)) }
 {
     if is_text(name) {
-        return read_text(rt, from, name, false, sheet);
+        return Input::lone(rt, name).read_text(from, sheet);
     }
-    read_sheet(rt, from, b"the sheet", sheet)
+    Input::lone(rt, b"the sheet").read(from, sheet)
 }
 
 // Takes the sheet of an open file, and judges the reply to it. The file is closed first: it has standard input's number where that is closed.
 #[inline(never)]
 fn judge_by(rt: &HostRuntime, mut file: File, name: &[u8], arguments: usize) {
     let mut sheet = [0u8; MOST_READ];
-    let input = take_replied(rt, &mut file, name, &mut sheet);
+    let taken = take_replied(rt, &mut file, name, &mut sheet);
     drop(file);
-    if input.is_taken {
-        judge_reply(rt, &sheet[..input.size], arguments);
+    if let Some(size) = taken {
+        judge_reply(rt, &sheet[..size], arguments);
     }
 }
 
 // The word `reply`: a sheet, and at most one reply.
 fn reply(rt: &HostRuntime, arguments: usize) {
-    if arguments <= FIRST_FILE {
-        say_one_reply(rt);
-        return;
-    }
-    if REPLY_FILE + 1 < arguments {
+    if arguments <= FIRST_FILE || REPLY_FILE + 1 < arguments {
         say_one_reply(rt);
         return;
     }
@@ -636,11 +571,10 @@ fn main(rt: HostRuntime) {
     let Some(size) = argument(&rt, 1, &mut text) else {
         return;
     };
-    let word = word_of(&text[..size]);
-    match word {
-        Word::Unknown => say_unknown(&rt, &text[..size]),
-        Word::Help => help(&rt),
-        Word::Reply => reply(&rt, arguments),
-        Word::Asks(job) => work_on_all(&rt, job, arguments),
+    match word_of(&text[..size]) {
+        None => say_unknown(&rt, &text[..size]),
+        Some(Word::Help) => help(&rt),
+        Some(Word::Reply) => reply(&rt, arguments),
+        Some(Word::Asks(job)) => work_on_all(&rt, job, arguments),
     }
 }

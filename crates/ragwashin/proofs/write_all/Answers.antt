@@ -1,7 +1,6 @@
--- `write_all` meets its contract: what is written moves from the front of `rest` behind what was appended. Assumes nothing.
-use Rattle.std.proofs.Common.{◌≡◌, ℕ, ◌-◌, List, [], ◌++◌, rules, length, take, drop, sym, ap, ◌∙◌, subst, append_assoc, append-nil, take-append-drop, drop_of_length-le}
+-- `write_all`: what is written moves from the front of `rest` behind what was appended. Assumes nothing.
+use Rattle.std.proofs.Common.{◌≡◌, ℕ, ◌-◌, List, ◌++◌, length, take, drop, sym, ap, ◌∙◌, append_assoc, take-append-drop}
 use Rattle.std.proofs.lemmas.List.{take_rest}
-use Rattle.std.specs.Io.KnownBytes.{Appends}
 use Rattle.std.proofs.KnownBytes.{Appends-trans}
 use Rattle.ragwashin.proofs.write_all.Goals as goal
 
@@ -15,10 +14,3 @@ loop-rest-preserved g c =
     let rest = c.loop-rest.rest.now in
     let n = c.in_ok-n.n in
     (done ++ take n rest, moves_front _ done rest n split, Appends-trans _ _ _ _ _ appended c.in_ok-n.ensures.bytes)
-
-pub returns : goal.returns
-returns g c =
-    let (done, split, appended) = c.loop-rest.invariant in
-    let rest = c.loop-rest.rest.now in
-    let empty : rest ≡ [] = drop_of_length-le rest {i = 0} (search rules) in
-    subst (Appends _ _) (sym (split ∙ ap (λ l. done ++ l) empty ∙ append-nil done)) appended
