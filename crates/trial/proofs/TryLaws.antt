@@ -40,7 +40,8 @@ use Rattle.digits.proofs.DigitLaws.{setting-based, digits_number}
 use Rattle.digits.proofs.NumberLaws.{case-long}
 use Rattle.trial.specs.declared.Replied.TheVariants.{Unsat, Fails}
 use Rattle.trial.specs.Replies.{RepliesInto}
-use Rattle.trial.specs.Trying.{is_in, values_refusal, case_refusal, NumbersReady, CaseReady}
+use Rattle.digits.specs.Ready.{CaseSpelled}
+use Rattle.trial.specs.Trying.{is_in, values_refusal, case_refusal, NumbersReady}
 use Rattle.trial.proofs.Answers.{values-case, replies-sheet, replies-11, replies-unsat, replies-case, replies-fails}
 
 module _ (s : List ℕ) where
@@ -49,8 +50,8 @@ module _ (s : List ℕ) where
   value-test numbers {i} l ed ex eb = eb ∙ rw (domain-is s i l ed, ex, get_or-take (variable_count s) numbers i (pos 0) l)
 
   -- ---- then 13: the values are in their domains, and the row stands as the evaluator asks
-  pub standing : {numbers : List ℤ} → NumbersReady s numbers → values_refusal s (take (variable_count s) numbers) ≡ none → Standing s numbers
-  standing {numbers} w e = record { accepted = w.accepted; present = values-case s _ (length-take-le (variable_count s) numbers w.present) e; zeros = w.zeros }
+  pub standing : {numbers : List ℤ} → refusal_of most_nodes s ≡ none → NumbersReady s numbers → values_refusal s (take (variable_count s) numbers) ≡ none → Standing s numbers
+  standing {numbers} a w e = record { accepted = a; present = values-case s _ (length-take-le (variable_count s) numbers w.present) e; zeros = w.zeros }
 
   module _ (c : List ℤ) where
     pub by_values : {r : Refusal} → some r ≡ values_refusal s c → some r ≡ case_refusal s c
@@ -73,10 +74,10 @@ module _ (s reply : List ℕ) {v : ℕ} (ev : v ≡ variable_count s) {r : Resul
 
 -- ---- what a reply that fits says
 module _ (s reply : List ℕ) (h : Reply (variable_count s) reply) {b : Bool} (e : b ≡ sat_first reply) where
-  pub case-ready : refusal_of most_nodes s ≡ none → b ≡ true → CaseReady s reply
+  pub case-ready : refusal_of most_nodes s ≡ none → b ≡ true → CaseSpelled (variable_count s) reply
   case-ready a t =
       let w = (sat-exactly (variable_count s) reply h).0 (sym e ∙ t) in
-      record { accepted = a; spelled = record { few = (accepted-inside s a).1; setting = w.0; spelled = w.1 } }
+      record { few = (accepted-inside s a).1; setting = w.0; spelled = w.1 }
 
   pub claims-unsat : b ≡ false → Claims reply
   claims-unsat t = (unsat-exactly (variable_count s) reply h).0 (sym e ∙ t)
@@ -90,7 +91,7 @@ module _ (s : List ℕ) (e : refusal_of most_nodes s ≡ none) {reply : List ℕ
   enough = omega (arith, length-take v numbers, case-long w.case)
 
   pub row-ready : NumbersReady s numbers
-  row-ready = record { accepted = e; present = omega (arith, enough); zeros = λ i l. (zeros-kept (zeros-begin v most_variables) w.others).zeros i (omega arith) }
+  row-ready = record { present = omega (arith, enough); zeros = λ i l. (zeros-kept (zeros-begin v most_variables) w.others).zeros i (omega arith) }
 
   narrow_at : (i : ℕ) → i < v → Narrow (get_or numbers i (pos 0))
   narrow_at i l =
@@ -102,8 +103,8 @@ module _ (s : List ℕ) (e : refusal_of most_nodes s ≡ none) {reply : List ℕ
 
 -- ---- the answer, and the room
 module _ (s reply : List ℕ) (room : List ℤ) where
-  pub into-sheet : {a : Result Replied Refused} {e : Refused} → a ≡ Err e → some (told_as e) ≡ refusal_of most_nodes s → RepliesInto most_nodes s reply room a room
-  into-sheet p d = rw p (record { answer = replies-sheet s reply (sym d); room = refl })
+  pub into-sheet : {a : Result Replied Refused} {e : Refused} → a ≡ Err e → refusal_of most_nodes s ≡ some (told_as e) → RepliesInto most_nodes s reply room a room
+  into-sheet p d = rw p (record { answer = replies-sheet s reply d; room = refl })
 
   module _ (e : refusal_of most_nodes s ≡ none) where
     pub into-11 : {p : ℕ} → Leaves (Reply (variable_count s)) reply p → RepliesInto most_nodes s reply room (Err (record { cause = Reply-cause; place = p })) room

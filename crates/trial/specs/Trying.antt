@@ -1,6 +1,6 @@
 -- Follows the code: the tests of a case that a reply spells, and what the functions that try it ask.
 use Rattle.std.specs.Prelude.{ℕ, ◌≤◌, ◌≡◌, Bool, not, ◌&&◌, List, ℤ, pos, length, get_or}
-use Rattle.std.proofs.Math.Option.{Option, none}
+use Rattle.std.proofs.Math.Option.{Option}
 use Rattle.std.specs.Int.Signed.{le_z}
 use Rattle.lists.specs.First.{◌otherwise◌, first}
 use Rattle.numbers.specs.declared.Range.{Range}
@@ -8,10 +8,7 @@ use Rattle.refusals.specs.declared.Refusal.{Refusal}
 use Rattle.refusals.specs.Said.{unless}
 use Rattle.meaning.specs.Rule.{domain_of, value_in}
 use Rattle.meaning.specs.Cases.{holds}
-use Rattle.layout.specs.Limits.{most_nodes}
 use Rattle.layout.specs.Parts.{variable_count, rule_in}
-use Rattle.reading.specs.Cascade.{refusal_of}
-use Rattle.digits.specs.Ready.{CaseSpelled}
 
 -- x is in the range
 unfoldable pub is_in : Range → ℤ → Bool
@@ -29,13 +26,7 @@ values_refusal s c = first (value_refusal s c) 0 (variable_count s)
 abbrev pub case_refusal : List ℕ → List ℤ → Option Refusal
 case_refusal s c = values_refusal s c otherwise unless (not (holds (rule_in s) c)) 13 0
 
--- the sheet is accepted, and the row has a number for each variable and 0 behind them
+-- the row has a number for each variable and 0 behind them
 pub record NumbersReady (s : List ℕ) (numbers : List ℤ) : Type 0 where
-  pub accepted : refusal_of most_nodes s ≡ none
   pub present : variable_count s ≤ length numbers
   pub zeros : (i : ℕ) → variable_count s ≤ i → get_or numbers i (pos 0) ≡ pos 0
-
--- the sheet is accepted, and the reply spells a setting of its variables
-pub record CaseReady (s reply : List ℕ) : Type 0 where
-  pub accepted : refusal_of most_nodes s ≡ none
-  pub spelled : CaseSpelled (variable_count s) reply

@@ -7,15 +7,16 @@ ghost use Rattle.refusals.specs.Said.{said_of};
 ghost use Rattle.layout.specs.Limits.{block_bytes, most_variables, most_nodes};
 ghost use Rattle.layout.specs.Parts.{variable_count};
 ghost use Rattle.reading.specs.Cascade.{refusal_of};
-ghost use Rattle.replies.specs.Replies.{Reply};
 ghost use Rattle.trial.specs.declared.Replied.TheVariants.{Fails};
 ghost use Rattle.trial.specs.Replies.{Replies, RepliesInto};
 ghost use Rattle.trial.specs.Digits.{DigitsPart, DigitsSpan};
-ghost use Rattle.trial.specs.Trying.{is_in, values_refusal, case_refusal, NumbersReady, CaseReady};
+ghost use Rattle.digits.specs.Ready.{CaseSpelled};
+ghost use Rattle.trial.specs.Trying.{is_in, values_refusal, case_refusal, NumbersReady};
 
 use digits::Span;
 use layout::MOST_VARIABLES;
 use numbers::{Range, VariableNumber};
+use reading::accepted::{self, Accepted};
 use refusals::{Cause, Refused};
 
 // What a reply comes to: unsat is claimed, or a failing case is spelled.
@@ -50,12 +51,13 @@ fn values_in(sheet: &[u8], case: &[i32; MOST_VARIABLES]) -> Result<(), Refused>
 }
 
 // 12, then 13: the case doesn't fail.
-fn case_fails(sheet: &[u8], case: &[i32; MOST_VARIABLES]) -> Result<(), Refused>
+fn case_fails(sheet: &Accepted, case: &[i32; MOST_VARIABLES]) -> Result<(), Refused>
     requires { NumbersReady sheet.now case.now }
     ensures { said_of result ≡ case_refusal sheet.now (take (variable_count sheet.now) case.now) }
 {
-    values_in(sheet, case)?;
-    let holds = evaluator::holds_at(sheet, case);
+    let bytes = sheet.bytes();
+    values_in(bytes, case)?;
+    let holds = evaluator::holds_at(bytes, case);
     if holds {
         return Err(Refused {
             cause: Cause::Holds,
@@ -66,11 +68,12 @@ fn case_fails(sheet: &[u8], case: &[i32; MOST_VARIABLES]) -> Result<(), Refused>
 }
 
 // Tries the case that a reply spells.
-fn try_case(sheet: &[u8], reply: &[u8], room: &mut [i16; MOST_VARIABLES]) -> Result<Replied, Refused>
-    requires { CaseReady sheet.now reply.now }
+fn try_case(sheet: &Accepted, reply: &[u8], room: &mut [i16; MOST_VARIABLES]) -> Result<Replied, Refused>
+    requires { CaseSpelled (variable_count sheet.now) reply.now }
     ensures { RepliesInto most_nodes sheet.now reply.now room.old result room.new }
 {
-    let v = header::variable_count(sheet);
+    let bytes = sheet.bytes();
+    let v = header::variable_count(bytes);
     let mut case = [0i32; MOST_VARIABLES];
     digits::numbers(reply, v, &mut case);
     case_fails(sheet, &case)?;
@@ -78,24 +81,14 @@ fn try_case(sheet: &[u8], reply: &[u8], room: &mut [i16; MOST_VARIABLES]) -> Res
     Ok(Replied::Fails)
 }
 
-// What a reply that fits says.
-fn said(sheet: &[u8], reply: &[u8], room: &mut [i16; MOST_VARIABLES]) -> Result<Replied, Refused>
-    requires { (refusal_of most_nodes sheet.now ≡ none) × Reply (variable_count sheet.now) reply.now }
-    ensures { RepliesInto most_nodes sheet.now reply.now room.old result room.new }
-{
-    if replies::says_sat(reply) {
-        return try_case(sheet, reply, room);
-    }
-    Ok(Replied::Unsat)
-}
-
 // 11: the first byte that fits no reply; else what the reply says.
-fn read_reply(sheet: &[u8], reply: &[u8], room: &mut [i16; MOST_VARIABLES]) -> Result<Replied, Refused>
-    requires { refusal_of most_nodes sheet.now ≡ none }
+fn read_reply(sheet: &Accepted, reply: &[u8], room: &mut [i16; MOST_VARIABLES]) -> Result<Replied, Refused>
     ensures { RepliesInto most_nodes sheet.now reply.now room.old result room.new }
 {
-    match replies::reach(reply, header::variable_count(sheet)) {
-        Ok(()) => said(sheet, reply, room),
+    let bytes = sheet.bytes();
+    match replies::reach(reply, header::variable_count(bytes)) {
+        Ok(()) if replies::says_sat(reply) => try_case(sheet, reply, room),
+        Ok(()) => Ok(Replied::Unsat),
         Err(place) => Err(Refused {
             cause: Cause::Reply,
             place,
@@ -107,8 +100,8 @@ fn read_reply(sheet: &[u8], reply: &[u8], room: &mut [i16; MOST_VARIABLES]) -> R
 pub fn reply_into(sheet: &[u8], reply: &[u8], room: &mut [i16; MOST_VARIABLES]) -> Result<Replied, Refused>
     ensures { RepliesInto most_nodes sheet.now reply.now room.old result room.new }
 {
-    reading::read(sheet)?;
-    read_reply(sheet, reply, room)
+    let sheet = accepted::accept(sheet)?;
+    read_reply(&sheet, reply, room)
 }
 
 // What a reply comes to.

@@ -7,26 +7,27 @@ use Rattle.trial.proofs.TryLaws.{row-case, row-ready, row_fits, into-case, into-
 use Rattle.trial.proofs.try_case.Goals as goal
 
 pub variable_count-v-requires : goal.variable_count-v-requires
-variable_count-v-requires c = (accepted-inside _ c.requires.accepted).0
+variable_count-v-requires c = rw c.bytes-bytes.ensures.same (accepted-inside _ c.bytes-bytes.ensures.accepted).0
 
 pub numbers-requires : goal.numbers-requires
-numbers-requires c = rw c.variable_count-v.ensures c.requires.spelled
+numbers-requires c = rw (c.variable_count-v.ensures, c.bytes-bytes.ensures.same) c.requires
 
 pub case_fails-requires : goal.case_fails-requires
 case_fails-requires c =
-    row-ready _ c.requires.accepted c.variable_count-v.ensures c.numbers.ensures
+    row-ready _ c.bytes-bytes.ensures.accepted (rw c.bytes-bytes.ensures.same at c.variable_count-v.ensures) c.numbers.ensures
 
 pub put-requires : goal.put-requires
 put-requires c =
-    row_fits _ c.requires.accepted c.variable_count-v.ensures c.numbers.ensures (search rules)
+    row_fits _ c.bytes-bytes.ensures.accepted (rw c.bytes-bytes.ensures.same at c.variable_count-v.ensures) c.numbers.ensures (search rules)
 
 pub returns-in_err-case_fails : goal.returns-in_err-case_fails
 returns-in_err-case_fails c =
-    let a = c.requires.accepted in
+    let a = c.bytes-bytes.ensures.accepted in
     let d : c.from_residual.result ≡ Err c.in_err-case_fails.field-0.0 = search rules in
-    into-case _ _ _ a (row-case _ a c.variable_count-v.ensures c.numbers.ensures) d c.in_err-case_fails.ensures
+    into-case _ _ _ a (row-case _ a (rw c.bytes-bytes.ensures.same at c.variable_count-v.ensures) c.numbers.ensures) d c.in_err-case_fails.ensures
 
 pub returns : goal.returns
 returns c =
-    let a = c.requires.accepted in
-    into-fails _ _ _ a (row-case _ a c.variable_count-v.ensures c.numbers.ensures) c.in_ok-case_fails.ensures (rw c.variable_count-v.ensures at c.put.ensures)
+    let a = c.bytes-bytes.ensures.accepted in
+    let v = rw c.bytes-bytes.ensures.same at c.variable_count-v.ensures in
+    into-fails _ _ _ a (row-case _ a v c.numbers.ensures) c.in_ok-case_fails.ensures (rw v at c.put.ensures)
