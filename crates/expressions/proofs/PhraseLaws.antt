@@ -105,7 +105,7 @@ module _ {s : List ℕ} {n : ℕ} (ok : AcceptedNode s n) where
   short-by Wrong l = omega (arith, plain-short (table s n).kind)
   short-by Bare l = omega (arith, plain-short (table s n).kind)
   short-by Valued l = omega (arith, value-short (table s n).value)
-  short-by Named l = omega (arith, ap (λ (v : Variable). length v.name) (variable-is s (table s n).a l), name-short {s = s} {i = (table s n).a} (record { accepted = ok.accepted; below = l }))
+  short-by Named l = omega (arith, ap (λ (v : Variable). length v.name) (variable-is s (table s n).a l), name-short s (table s n).a ok.accepted l)
   short-by (One x) l = omega (arith, plain-short (table s n).kind)
   short-by (Two x y) l = omega (arith, plain-short (table s n).kind)
   short-by (Three x y z) l = omega (arith, plain-short (table s n).kind)

@@ -6,7 +6,7 @@ ghost use Rattle.std.specs.Prelude.{◌≡◌, ◌++◌, ◌+◌, ◌≤◌, ◌
 ghost use Rattle.lists.specs.Ascii.{ascii};
 ghost use Rattle.layout.specs.Parts.{node_count, variable_count, variable_at};
 ghost use Rattle.room.specs.Room.{Wrote};
-ghost use Rattle.expressions.specs.Phrases.{NameAt, phrase_at, word_at, words_bytes, one_text, two_text, three_text};
+ghost use Rattle.expressions.specs.Phrases.{phrase_at, word_at, words_bytes, one_text, two_text, three_text};
 
 use kinds::{Record, Shape};
 use numbers::{NodeNumber, VariableNumber};
@@ -14,15 +14,6 @@ use reading::accepted::Accepted;
 
 // What stands between words.
 pub const BLANK: [u8; 1] = *b" ";
-
-// A variable's name.
-pub fn name_of<'a>(sheet: &'a Accepted, n: VariableNumber) -> &'a [u8]
-    requires { n.0 < variable_count sheet.now }
-    ensures { NameAt sheet.now n.0 result.now }
-{
-    sheet.bytes();
-    sheet.name(n)
-}
 
 // A variable's name, from a place of the room on.
 pub fn put_name(sheet: &Accepted, n: VariableNumber, room: &mut [u8], at: usize) -> usize

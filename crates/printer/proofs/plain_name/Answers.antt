@@ -3,4 +3,4 @@ use Rattle.printer.proofs.PrintLaws.{plain-is}
 use Rattle.printer.proofs.plain_name.Goals as goal
 
 pub returns : goal.returns
-returns c = plain-is c.requires c.name_of-name.ensures c.is_plain_name.ensures
+returns c = plain-is _ _ c.bytes.ensures.accepted c.requires c.name.ensures c.is_plain_name.ensures

@@ -8,4 +8,4 @@ use Rattle.printer.proofs.print_accepted.Goals as goal
 pub returns-in_err-read_names : goal.returns-in_err-read_names
 returns-in_err-read_names c =
     let d : c.from_residual.result ≡ Err c.in_err-read_names.field-0.0 = search rules in
-    name-refused _ c.requires _ d c.in_err-read_names.ensures
+    name-refused _ c.bytes.ensures.accepted _ d c.in_err-read_names.ensures

@@ -4,8 +4,8 @@ use Rattle.printer.proofs.PrintLaws.{room-short, text-written}
 use Rattle.printer.proofs.print_named.Goals as goal
 
 pub returns-then-room-size : goal.returns-then-room-size
-returns-then-room-size c = room-short _ c.requires.0 c.requires.1 _ c.text_len-size.ensures c.if-room-size.true
+returns-then-room-size c = room-short _ c.bytes.ensures.accepted c.requires _ c.text_len-size.ensures c.if-room-size.true
 
 pub returns : goal.returns
 returns c =
-    text-written _ c.requires.0 c.requires.1 (omega arith) c.put_text.ensures
+    text-written _ c.bytes.ensures.accepted c.requires (omega arith) c.put_text.ensures

@@ -2,24 +2,19 @@
 use mathlib.Core.Path.{sym, ◌∙◌}
 use native.Mathlib.Nat.{sub-zero}
 use native.Mathlib.Omega.{arith}
-use borrow.Author.Rules.{rules}
 use Rattle.lists.proofs.FirstLaws.{left-pass, left-stop, left-done}
 use Rattle.refusals.proofs.SaidLaws.{unless-true, unless-false}
 use Rattle.reading.proofs.RuleLaws.{accepted-counted}
-use Rattle.printer.proofs.LineLaws.{first_block}
 use Rattle.printer.proofs.read_names.Goals as goal
-
-pub variable_count-count-requires : goal.variable_count-count-requires
-variable_count-count-requires c = first_block _ c.requires
 
 pub loop-checked-init : goal.loop-checked-init
 loop-checked-init c = rw (sub-zero, c.variable_count-count.ensures)
 
 pub overflow_cast-checked : goal.overflow_cast-checked
-overflow_cast-checked c = omega (arith, (accepted-counted _ c.requires).few)
+overflow_cast-checked c = omega (arith, (accepted-counted _ c.bytes.ensures.accepted).few)
 
 pub plain_name-requires : goal.plain_name-requires
-plain_name-requires c = record { accepted = c.requires; below = omega (arith, c.variable_count-count.ensures) }
+plain_name-requires c = omega (arith, c.variable_count-count.ensures)
 
 pub returns-then-not-plain_name : goal.returns-then-not-plain_name
 returns-then-not-plain_name c =
