@@ -13,9 +13,10 @@ use Rattle.lists.proofs.JoinedLaws.{joined-none, length_more}
 use Rattle.numbers.specs.Two.{dec}
 use Rattle.numbers.specs.Bytes.{u16_at, i16_at}
 use Rattle.numbers.specs.Decimal.{signed}
-use Rattle.layout.specs.Limits.{max_offset, most_nodes, variable_place}
+use Rattle.layout.specs.Limits.{max_offset, most_nodes, most_variables, variable_place}
 use Rattle.layout.specs.Parts.{variable_count, variable_at}
 use Rattle.reading.specs.Cascade.{refusal_of}
+use Rattle.reading.proofs.RuleLaws.{accepted-counted}
 use Rattle.spelling.proofs.NumberLaws.{value-short}
 use Rattle.expressions.proofs.NameLaws.{name-short}
 use Rattle.printer.specs.Lines.{line_at, line_start, line_end, longest_line}
@@ -44,6 +45,9 @@ module _ (s : List ℕ) (i : ℕ) {place low high : ℕ} (ep : place ≡ variabl
 
   pub line-length : length (line_at s i) ≡ 7 + length (variable_at s i).name + length (signed (dec 16 low)) + length (signed (dec 16 high))
   line-length = ap length (sym line-from) ∙ length-append (line_start s i) (line_end low high) ∙ omega (arith, start-length s i, end-length low high)
+
+pub few_variables : (s : List ℕ) → refusal_of most_nodes s ≡ none → variable_count s ≤ most_variables
+few_variables s e = (accepted-counted s e).few
 
 -- how long it can be
 pub line-short : (s : List ℕ) (i : ℕ) → refusal_of most_nodes s ≡ none → i < variable_count s → length (line_at s i) ≤ longest_line

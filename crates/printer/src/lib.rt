@@ -12,6 +12,7 @@ ghost use Rattle.numbers.specs.Decimal.{signed};
 ghost use Rattle.refusals.specs.Said.{said_of};
 ghost use Rattle.layout.specs.Limits.{most_nodes};
 ghost use Rattle.layout.specs.Parts.{variable_count, variable_at, rule_in};
+ghost use Rattle.reading.specs.Cascade.{refusal_of};
 ghost use Rattle.room.specs.Room.{Wrote};
 ghost use Rattle.texts.specs.Plain.{text_of};
 ghost use Rattle.texts.specs.WordKinds.{behind_word, is_none};
@@ -78,15 +79,24 @@ fn variable_line(sheet: &Accepted, n: VariableNumber, room: &mut [u8], at: usize
     line_end(room, next, low, high)
 }
 
+// V, as what numbers the variables.
+#[tactic(auto, using(crate::proofs::LineLaws::few_variables))]
+fn variables(sheet: &Accepted) -> u16
+    ensures same { result ≡ variable_count sheet.now }
+    ensures accepted { refusal_of most_nodes sheet.now ≡ none }
+{
+    sheet.bytes();
+    sheet.variable_count() as u16
+}
+
 // The lines of all variables.
 fn variable_lines(sheet: &Accepted, room: &mut [u8]) -> usize
     requires { length (joined_below (line_at sheet.now) (variable_count sheet.now)) ≤ length room.old }
     ensures { Wrote (joined_below (line_at sheet.now) (variable_count sheet.now)) room.old room.new 0 result }
 {
-    sheet.bytes();
     let mut next = 0;
-    for variable in 0..sheet.variable_count() {
-        next = variable_line(sheet, VariableNumber(variable as u16), room, next);
+    for variable in 0..variables(sheet) {
+        next = variable_line(sheet, VariableNumber(variable), room, next);
     }
     next
 }
@@ -108,10 +118,9 @@ fn line_len(sheet: &Accepted, n: VariableNumber) -> usize
 fn lines_len(sheet: &Accepted) -> usize
     ensures { result ≡ length (joined_below (line_at sheet.now) (variable_count sheet.now)) }
 {
-    sheet.bytes();
     let mut size = 0;
-    for variable in 0..sheet.variable_count() {
-        size += line_len(sheet, VariableNumber(variable as u16));
+    for variable in 0..variables(sheet) {
+        size += line_len(sheet, VariableNumber(variable));
     }
     size
 }
@@ -127,16 +136,6 @@ fn goal_line(sheet: &Accepted, room: &mut [u8], at: usize) -> usize
     room::put(room, q, &LINE_FEED)
 }
 
-// The text, to the front of the room; its bytes.
-fn put_text(sheet: &Accepted, room: &mut [u8]) -> usize
-    requires { length (text_of (rule_in sheet.now)) ≤ length room.old }
-    ensures { Wrote (text_of (rule_in sheet.now)) room.old room.new 0 result }
-{
-    sheet.bytes();
-    let next = variable_lines(sheet, room);
-    goal_line(sheet, room, next)
-}
-
 // The length of the text.
 fn text_len(sheet: &Accepted) -> usize
     ensures { result ≡ length (text_of (rule_in sheet.now)) }
@@ -147,42 +146,16 @@ fn text_len(sheet: &Accepted) -> usize
     lines + GOAL.len() + BLANK.len() + words
 }
 
-// The text of an accepted sheet whose names are no words, or refusal 9 at the bytes that it needs.
-fn print_named(sheet: &Accepted, room: &mut [u8]) -> Result<usize, Refused>
-    requires { first (word_refusal sheet.now) 0 (variable_count sheet.now) ≡ none }
-    ensures { Prints most_nodes sheet.now room.old result room.new }
-{
-    sheet.bytes();
-    let size = text_len(sheet);
-    if room.len() < size {
-        return Err(Refused {
-            cause: Cause::Room,
-            place: size,
-        });
-    }
-    Ok(put_text(sheet, room))
-}
-
-// Whether a variable's name is no word.
-fn plain_name(sheet: &Accepted, n: VariableNumber) -> bool
-    requires { n.0 < variable_count sheet.now }
-    ensures { result ≡ is_none (behind_word (variable_at sheet.now n.0).name) }
-{
-    sheet.bytes();
-    words::is_plain_name(sheet.name(n))
-}
-
 // Refusal 19: the lowest variable whose name is a word.
 fn read_names(sheet: &Accepted) -> Result<(), Refused>
     ensures { said_of result ≡ first (word_refusal sheet.now) 0 (variable_count sheet.now) }
 {
-    sheet.bytes();
-    let count = sheet.variable_count();
+    let count = variables(sheet);
     for checked in 0..count {
-        if !plain_name(sheet, VariableNumber(checked as u16)) {
+        if !words::is_plain_name(sheet.name(VariableNumber(checked))) {
             return Err(Refused {
                 cause: Cause::Word,
-                place: checked,
+                place: checked as usize,
             });
         }
     }
@@ -195,7 +168,15 @@ fn print_accepted(sheet: &Accepted, room: &mut [u8]) -> Result<usize, Refused>
 {
     sheet.bytes();
     read_names(sheet)?;
-    print_named(sheet, room)
+    let size = text_len(sheet);
+    if room.len() < size {
+        return Err(Refused {
+            cause: Cause::Room,
+            place: size,
+        });
+    }
+    let next = variable_lines(sheet, room);
+    Ok(goal_line(sheet, room, next))
 }
 
 // The text to the front of the room; a refusal leaves the room untouched.

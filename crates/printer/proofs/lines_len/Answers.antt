@@ -13,14 +13,11 @@ use Rattle.printer.proofs.lines_len.Goals as goal
 pub loop-variable-init : goal.loop-variable-init
 loop-variable-init c = sym (ap length (joined-none (line_at c.args.sheet.now)))
 
-pub overflow_cast-variable : goal.overflow_cast-variable
-overflow_cast-variable c = omega (arith, (accepted-counted _ c.bytes.ensures.accepted).few)
-
 pub overflow_add-size : goal.overflow_add-size
 overflow_add-size c =
     let s = c.args.sheet.now in
     let i = c.loop-variable.variable in
-    omega (arith, line-short s i c.bytes.ensures.accepted (omega arith), lines-short s c.bytes.ensures.accepted i (omega arith), (accepted-counted _ c.bytes.ensures.accepted).few)
+    omega (arith, line-short s i c.variables-variable-end.ensures.accepted (omega arith), lines-short s c.variables-variable-end.ensures.accepted i (omega arith), (accepted-counted _ c.variables-variable-end.ensures.accepted).few)
 
 pub loop-variable-preserved : goal.loop-variable-preserved
 loop-variable-preserved c = omega (arith, length_more (line_at c.args.sheet.now) c.loop-variable.variable)

@@ -4,16 +4,12 @@ use native.Mathlib.Omega.{arith}
 use Rattle.lists.specs.Joined.{joined_below}
 use Rattle.lists.proofs.JoinedLaws.{length-within}
 use Rattle.layout.specs.Parts.{variable_count}
-use Rattle.reading.proofs.RuleLaws.{accepted-counted}
 use Rattle.room.proofs.RoomLaws.{wrote_as, wrote-more, wrote-no-texts}
 use Rattle.printer.specs.Lines.{line_at}
 use Rattle.printer.proofs.variable_lines.Goals as goal
 
 pub loop-variable-init : goal.loop-variable-init
 loop-variable-init c = (omega arith, wrote-no-texts _ _ _)
-
-pub overflow_cast-variable : goal.overflow_cast-variable
-overflow_cast-variable c = omega (arith, (accepted-counted _ c.bytes.ensures.accepted).few)
 
 pub variable_line-next-requires : goal.variable_line-next-requires
 variable_line-next-requires c =
