@@ -1,14 +1,15 @@
--- Variables of an accepted sheet: where their records stand, and their names. Assumes nothing.
-use Prim.Native.Nat.{ℕ, ◌+◌, ◌≤◌, min}
-use mathlib.Core.Path.{◌≡◌, ap, ◌∙◌}
+-- The names of an accepted sheet's variables are short. Assumes nothing.
+use Prim.Native.Nat.{ℕ, ◌+◌, ◌≤◌, ◌<◌, min}
+use mathlib.Core.Path.{◌≡◌}
 use mathlib.Core.List.{List}
+use mathlib.Core.Option.{none}
 use native.Mathlib.Omega.{arith}
-use lib.ListN.{length, take, drop, length-take}
-use Rattle.layout.specs.Limits.{name_start, most_name_bytes, variable_place}
-use Rattle.layout.specs.Parts.{variable_at, name_size, name_in}
+use lib.ListN.{length, drop, length-take}
+use Rattle.layout.specs.Limits.{name_start, most_name_bytes, most_nodes, variable_place}
+use Rattle.layout.specs.Parts.{variable_count, variable_at, name_size, name_in}
 use Rattle.records.specs.Names.{VariableKept}
-use Rattle.reading.proofs.RuleLaws.{accepted-counted, accepted-kept}
-use Rattle.expressions.specs.Phrases.{AcceptedVariable, NameAt}
+use Rattle.reading.specs.Cascade.{refusal_of}
+use Rattle.reading.proofs.RuleLaws.{accepted-kept}
 
 pub kept-short : (s : List ℕ) (i : ℕ) → VariableKept s i → length (variable_at s i).name ≤ most_name_bytes
 kept-short s i kept =
@@ -16,18 +17,5 @@ kept-short s i kept =
     let m : length (name_in s (variable_place i)) ≡ min (name_size s (variable_place i)) (length (drop (variable_place i + name_start) s)) = length-take _ _ in
     omega arith
 
-module _ {s : List ℕ} {i : ℕ} (ok : AcceptedVariable s i) where
-  pub name-short : length (variable_at s i).name ≤ most_name_bytes
-  name-short = kept-short s i (accepted-kept s ok.accepted i ok.below)
-
-  module _ {p : ℕ} (ep : p ≡ variable_place i) where
-    pub record-inside : p + name_start + 255 ≤ length s
-    record-inside =
-        let c = accepted-counted s ok.accepted in
-        let z = c.size in
-        let y = c.some-node in
-        let f = c.few in
-        omega (arith, ok.below)
-
-    pub name-at : {t : List ℕ} → t ≡ take (name_size s p) (drop (p + name_start) s) → NameAt s i t
-    name-at et = let q = et ∙ ap (name_in s) ep in record { name = q; short = rw q name-short }
+pub name-short : (s : List ℕ) (i : ℕ) → refusal_of most_nodes s ≡ none → i < variable_count s → length (variable_at s i).name ≤ most_name_bytes
+name-short s i e l = kept-short s i (accepted-kept s e i l)

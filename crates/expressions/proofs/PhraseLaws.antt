@@ -14,7 +14,7 @@ use Rattle.kinds.specs.declared.Shape.{Shape}
 use Rattle.kinds.specs.declared.Shape.TheVariants.{Wrong, Bare, Valued, Named, One, Two, Three}
 use Rattle.kinds.specs.Kinds.{row}
 use Rattle.kinds.specs.Rows.{Known}
-use Rattle.layout.specs.Limits.{most_name_bytes, node_bytes, most_nodes, node_place}
+use Rattle.layout.specs.Limits.{most_name_bytes, most_nodes}
 use Rattle.layout.specs.Starts.{shape_at, operands_of, start_by, start_at, Ordered, VariableBelow}
 use Rattle.layout.specs.Parts.{node_count, variable_count, variable_at, table}
 use Rattle.layout.specs.LaidOut.{Placed}
@@ -22,14 +22,13 @@ use Rattle.layout.specs.Fold.{found_by}
 use Rattle.layout.proofs.StartLaws.{Before, lower, start_is}
 use Rattle.layout.proofs.FoldLaws.{node-is}
 use Rattle.layout.proofs.PartLaws.{variable-is}
-use Rattle.header.proofs.HeaderLaws.{node-inside}
 use Rattle.reading.specs.Cascade.{refusal_of}
-use Rattle.reading.proofs.RuleLaws.{accepted-counted, accepted-sound}
+use Rattle.reading.proofs.RuleLaws.{accepted-sound}
 use Rattle.room.specs.Room.{Wrote}
 use Rattle.room.proofs.RoomLaws.{wrote_as, chain}
 use Rattle.spelling.proofs.WordLaws.{plain-short}
 use Rattle.spelling.proofs.NumberLaws.{value-short}
-use Rattle.expressions.specs.Phrases.{AcceptedNode, AcceptedVariable, call1, call2, call3, phrase_by, phrase_step, word_by, sheet_names, phrase_at, word_at, words_bytes}
+use Rattle.expressions.specs.Phrases.{AcceptedNode, call1, call2, call3, phrase_by, phrase_step, word_by, sheet_names, phrase_at, word_at, words_bytes}
 use Rattle.expressions.proofs.NameLaws.{name-short}
 
 -- ---- lengths
@@ -60,9 +59,6 @@ by_shape s h r g = phrase_by (sheet_names s) h (row r.kind).plain (found_by h r 
 module _ {s : List ℕ} {n : ℕ} (ok : AcceptedNode s n) where
   pub placed : Placed (table s) (variable_count s) n
   placed = (accepted-sound s ok.accepted).placed n ok.below
-
-  pub inside : node_place n + node_bytes ≤ length s
-  inside = node-inside (accepted-counted s ok.accepted) ok.below
 
   pub from-record : phrase_at s n ≡ by_shape s (shape_at (table s n)) (table s n) (phrase_at s)
   unfolding phrase_at
@@ -109,7 +105,7 @@ module _ {s : List ℕ} {n : ℕ} (ok : AcceptedNode s n) where
   short-by Wrong l = omega (arith, plain-short (table s n).kind)
   short-by Bare l = omega (arith, plain-short (table s n).kind)
   short-by Valued l = omega (arith, value-short (table s n).value)
-  short-by Named l = omega (arith, ap (λ (v : Variable). length v.name) (variable-is s (table s n).a l), name-short {s = s} {i = (table s n).a} (record { accepted = ok.accepted; below = l }))
+  short-by Named l = omega (arith, ap (λ (v : Variable). length v.name) (variable-is s (table s n).a l), name-short s (table s n).a ok.accepted l)
   short-by (One x) l = omega (arith, plain-short (table s n).kind)
   short-by (Two x y) l = omega (arith, plain-short (table s n).kind)
   short-by (Three x y z) l = omega (arith, plain-short (table s n).kind)
@@ -124,7 +120,10 @@ words-short s e zero l = omega arith
 words-short s e (suc n) l = omega (arith, words-short s e n (omega arith), word-short (record { accepted = e; below = l }))
 
 -- ---- a node by its record r and its shape h
-module _ {s : List ℕ} {n : ℕ} (ok : AcceptedNode s n) {r : Record} (er : r ≡ table s n) {h : Shape} (eh : h ≡ (row r.kind).shape) where
+module _ (s : List ℕ) (n : ℕ) (e : refusal_of most_nodes s ≡ none) (l : n < node_count s) {r : Record} (er : r ≡ table s n) {h : Shape} (eh : h ≡ (row r.kind).shape) where
+  ok : AcceptedNode s n
+  ok = record { accepted = e; below = l }
+
   as-shape : h ≡ shape_at (table s n)
   as-shape = eh ∙ ap shape_at er
 
@@ -137,13 +136,13 @@ module _ {s : List ℕ} {n : ℕ} (ok : AcceptedNode s n) {r : Record} (er : r �
 
   -- of all but a constant and a variable, the word of the kind
   plain-by : (g : Shape) → h ≡ g → ¬ (h ≡ Valued) → ¬ (h ≡ Named) → word_at s n ≡ (row r.kind).plain
-  plain-by Wrong e v w = node-word e
-  plain-by Bare e v w = node-word e
-  plain-by Valued e v w = absurd (v e)
-  plain-by Named e v w = absurd (w e)
-  plain-by (One x) e v w = node-word e
-  plain-by (Two x y) e v w = node-word e
-  plain-by (Three x y z) e v w = node-word e
+  plain-by Wrong q v w = node-word q
+  plain-by Bare q v w = node-word q
+  plain-by Valued q v w = absurd (v q)
+  plain-by Named q v w = absurd (w q)
+  plain-by (One x) q v w = node-word q
+  plain-by (Two x y) q v w = node-word q
+  plain-by (Three x y z) q v w = node-word q
 
   pub plain-word : ¬ (h ≡ Valued) → ¬ (h ≡ Named) → word_at s n ≡ (row r.kind).plain
   plain-word v w = plain-by h refl v w
@@ -156,26 +155,23 @@ module _ {s : List ℕ} {n : ℕ} (ok : AcceptedNode s n) {r : Record} (er : r �
   never-wrong eg = subst Known (sym as-shape ∙ eg) (placed ok).known
 
   -- its operands are nodes of the sheet
-  lower-ready : {a : ℕ} → a < n → AcceptedNode s a
-  lower-ready l = record { accepted = ok.accepted; below = omega (arith, ok.below) }
+  pub one-node : {t : Sort} → h ≡ One t → (r.a < n) × (r.a < node_count s)
+  one-node eg = let b = operands-before eg in (b.0, omega (arith, b.0))
 
-  pub one-node : {t : Sort} → h ≡ One t → (r.a < n) × AcceptedNode s r.a
-  one-node eg = let b = operands-before eg in (b.0, lower-ready b.0)
+  pub two-node : {t u : Sort} → h ≡ Two t u → (r.a < n) × (r.b < n) × (r.a < node_count s) × (r.b < node_count s)
+  two-node eg = let b = operands-before eg in (b.1.0, b.0, omega (arith, b.1.0), omega (arith, b.0))
 
-  pub two-node : {t u : Sort} → h ≡ Two t u → (r.a < n) × (r.b < n) × AcceptedNode s r.a × AcceptedNode s r.b
-  two-node eg = let b = operands-before eg in (b.1.0, b.0, lower-ready b.1.0, lower-ready b.0)
-
-  pub three-node : {t u v : Sort} → h ≡ Three t u v → (r.a < n) × (r.b < n) × (r.c < n) × AcceptedNode s r.a × AcceptedNode s r.b × AcceptedNode s r.c
-  three-node eg = let b = operands-before eg in (b.1.1.0, b.1.0, b.0, lower-ready b.1.1.0, lower-ready b.1.0, lower-ready b.0)
+  pub three-node : {t u v : Sort} → h ≡ Three t u v → (r.a < n) × (r.b < n) × (r.c < n) × (r.a < node_count s) × (r.b < node_count s) × (r.c < node_count s)
+  three-node eg = let b = operands-before eg in (b.1.1.0, b.1.0, b.0, omega (arith, b.1.1.0), omega (arith, b.1.0), omega (arith, b.0))
 
   -- a variable that it names, and that one's name
-  pub named-variable : h ≡ Named → AcceptedVariable s r.a
+  pub named-variable : h ≡ Named → r.a < variable_count s
   named-variable eg =
-      let l : (table s n).a < variable_count s = subst (λ (g : Shape). VariableBelow g (table s n) (variable_count s)) (sym as-shape ∙ eg) (placed ok).listed in
-      record { accepted = ok.accepted; below = omega (arith, ap (λ (x : Record). x.a) er) }
+      let m : (table s n).a < variable_count s = subst (λ (g : Shape). VariableBelow g (table s n) (variable_count s)) (sym as-shape ∙ eg) (placed ok).listed in
+      omega (arith, ap (λ (x : Record). x.a) er)
 
   pub named-text : h ≡ Named → (variable_at s r.a).name ≡ phrase_at s n
-  named-text eg = sym (node-text eg ∙ ap (λ (v : Variable). v.name) (variable-is s r.a (named-variable eg).below))
+  named-text eg = sym (node-text eg ∙ ap (λ (v : Variable). v.name) (variable-is s r.a (named-variable eg)))
 
   pub named-word : h ≡ Named → (variable_at s r.a).name ≡ word_at s n
-  named-word eg = sym (node-word eg ∙ ap (λ (v : Variable). v.name) (variable-is s r.a (named-variable eg).below))
+  named-word eg = sym (node-word eg ∙ ap (λ (v : Variable). v.name) (variable-is s r.a (named-variable eg)))

@@ -1,5 +1,5 @@
 -- Follows the code: the texts of nodes, by the sheet's records, and how long they are.
-use Rattle.std.specs.Prelude.{ℕ, zero, suc, ◌+◌, ◌≤◌, ◌<◌, ◌≡◌, List, [], ◌++◌, length}
+use Rattle.std.specs.Prelude.{ℕ, zero, suc, ◌+◌, ◌<◌, ◌≡◌, List, [], ◌++◌, length}
 use Rattle.std.proofs.Math.Option.{none}
 use Rattle.lists.specs.Ascii.{ascii}
 use Rattle.numbers.specs.Two.{dec}
@@ -9,10 +9,10 @@ use Rattle.kinds.specs.declared.Record.{Record}
 use Rattle.kinds.specs.declared.Shape.{Shape}
 use Rattle.kinds.specs.declared.Shape.TheVariants.{Wrong, Bare, Valued, Named, One, Two, Three}
 use Rattle.kinds.specs.Kinds.{row}
-use Rattle.layout.specs.Limits.{most_name_bytes, most_nodes}
+use Rattle.layout.specs.Limits.{most_nodes}
 use Rattle.layout.specs.Starts.{shape_at}
 use Rattle.layout.specs.Fold.{Found, of_node}
-use Rattle.layout.specs.Parts.{node_count, variable_count, variable_at, table, rule_in}
+use Rattle.layout.specs.Parts.{node_count, table, rule_in}
 use Rattle.reading.specs.Cascade.{refusal_of}
 use Rattle.texts.specs.Plain.{name_of}
 
@@ -20,11 +20,6 @@ use Rattle.texts.specs.Plain.{name_of}
 pub record AcceptedNode (s : List ℕ) (n : ℕ) : Type 0 where
   pub accepted : refusal_of most_nodes s ≡ none
   pub below : n < node_count s
-
--- the sheet is accepted, and i is one of its variables
-pub record AcceptedVariable (s : List ℕ) (i : ℕ) : Type 0 where
-  pub accepted : refusal_of most_nodes s ≡ none
-  pub below : i < variable_count s
 
 -- ---- nodes
 
@@ -88,10 +83,3 @@ two_text s r = call2 (row r.kind).plain (phrase_at s r.a) (phrase_at s r.b)
 
 abbrev pub three_text : List ℕ → Record → List ℕ
 three_text s r = call3 (row r.kind).plain (phrase_at s r.a) (phrase_at s r.b) (phrase_at s r.c)
-
--- ---- variables
-
--- the bytes are variable i's name, at most 16 of them
-pub record NameAt (s : List ℕ) (i : ℕ) (t : List ℕ) : Type 0 where
-  pub name : t ≡ (variable_at s i).name
-  pub short : length t ≤ most_name_bytes

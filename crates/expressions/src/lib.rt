@@ -1,52 +1,44 @@
 // The expressions of plain texts, written into lent room: the words of a node and of its operands, and how long they are.
+// `sheet.bytes()` stands alone where a proof needs that the sheet is accepted, which that method's clause says.
 #![tactic(auto)]
 
-ghost use Rattle.std.specs.Prelude.{◌≡◌, ◌++◌, ◌+◌, ◌≤◌, length};
-ghost use Rattle.std.proofs.Math.Option.{none};
+ghost use Rattle.std.specs.Prelude.{◌≡◌, ◌++◌, ◌+◌, ◌≤◌, ◌<◌, length};
 ghost use Rattle.lists.specs.Ascii.{ascii};
-ghost use Rattle.layout.specs.Limits.{most_nodes};
-ghost use Rattle.layout.specs.Parts.{node_count, variable_at};
-ghost use Rattle.reading.specs.Cascade.{refusal_of};
+ghost use Rattle.layout.specs.Parts.{node_count, variable_count, variable_at};
 ghost use Rattle.room.specs.Room.{Wrote};
-ghost use Rattle.expressions.specs.Phrases.{AcceptedNode, AcceptedVariable, NameAt, phrase_at, word_at, words_bytes, one_text, two_text, three_text};
+ghost use Rattle.expressions.specs.Phrases.{phrase_at, word_at, words_bytes, one_text, two_text, three_text};
 
 use kinds::{Record, Shape};
 use numbers::{NodeNumber, VariableNumber};
+use reading::accepted::Accepted;
 
 // What stands between words.
 pub const BLANK: [u8; 1] = *b" ";
 
-// A variable's name.
-pub fn name_of(sheet: &[u8], n: VariableNumber) -> &[u8]
-    requires { AcceptedVariable sheet.now n.0 }
-    ensures { NameAt sheet.now n.0 result.now }
-{
-    records::name_in(sheet, records::variable_place(n))
-}
-
 // A variable's name, from a place of the room on.
-pub fn put_name(sheet: &[u8], n: VariableNumber, room: &mut [u8], at: usize) -> usize
-    requires { AcceptedVariable sheet.now n.0 × (at + length (variable_at sheet.now n.0).name ≤ length room.old) }
+pub fn put_name(sheet: &Accepted, n: VariableNumber, room: &mut [u8], at: usize) -> usize
+    requires { (n.0 < variable_count sheet.now) × (at + length (variable_at sheet.now n.0).name ≤ length room.old) }
     ensures { Wrote (variable_at sheet.now n.0).name room.old room.new at result }
 {
-    room::put(room, at, name_of(sheet, n))
+    room::put(room, at, sheet.name(n))
 }
 
 // The length of a variable's name.
-pub fn name_len(sheet: &[u8], n: VariableNumber) -> usize
-    requires { AcceptedVariable sheet.now n.0 }
+pub fn name_len(sheet: &Accepted, n: VariableNumber) -> usize
+    requires { n.0 < variable_count sheet.now }
     ensures { result ≡ length (variable_at sheet.now n.0).name }
 {
-    name_of(sheet, n).len()
+    sheet.name(n).len()
 }
 
 // The text of a node, to the front of the room; its bytes.
 #[cycle(one_operand_phrase_three_two)]
-fn phrase(sheet: &[u8], node: NodeNumber, room: &mut [u8]) -> usize
-    requires { AcceptedNode sheet.now node.0 × (length (phrase_at sheet.now node.0) ≤ length room.old) }
+fn phrase(sheet: &Accepted, node: NodeNumber, room: &mut [u8]) -> usize
+    requires { (node.0 < node_count sheet.now) × (length (phrase_at sheet.now node.0) ≤ length room.old) }
     ensures { Wrote (phrase_at sheet.now node.0) room.old room.new 0 result }
 {
-    let fields = records::record_at(sheet, node);
+    sheet.bytes();
+    let fields = sheet.record(node);
     let kind = fields.kind;
     match kinds::shape_of(kind) {
         Shape::Wrong => 0,
@@ -61,8 +53,8 @@ fn phrase(sheet: &[u8], node: NodeNumber, room: &mut [u8]) -> usize
 
 // A blank and the text of an operand, from a place of the room on.
 #[cycle(one_operand_phrase_three_two)]
-pub fn operand(sheet: &[u8], node: NodeNumber, room: &mut [u8], at: usize) -> usize
-    requires { AcceptedNode sheet.now node.0 × (at + length (ascii " " ++ phrase_at sheet.now node.0) ≤ length room.old) }
+pub fn operand(sheet: &Accepted, node: NodeNumber, room: &mut [u8], at: usize) -> usize
+    requires { (node.0 < node_count sheet.now) × (at + length (ascii " " ++ phrase_at sheet.now node.0) ≤ length room.old) }
     ensures { Wrote (ascii " " ++ phrase_at sheet.now node.0) room.old room.new at result }
 {
     let next = room::put(room, at, &BLANK);
@@ -71,8 +63,8 @@ pub fn operand(sheet: &[u8], node: NodeNumber, room: &mut [u8], at: usize) -> us
 
 // The text of a node with one operand.
 #[cycle(one_operand_phrase_three_two)]
-fn one(sheet: &[u8], fields: Record, room: &mut [u8]) -> usize
-    requires { AcceptedNode sheet.now fields.a × (length (one_text sheet.now fields) ≤ length room.old) }
+fn one(sheet: &Accepted, fields: Record, room: &mut [u8]) -> usize
+    requires { (fields.a < node_count sheet.now) × (length (one_text sheet.now fields) ≤ length room.old) }
     ensures { Wrote (one_text sheet.now fields) room.old room.new 0 result }
 {
     let next = spelling::put_word(room, 0, fields.kind);
@@ -81,8 +73,8 @@ fn one(sheet: &[u8], fields: Record, room: &mut [u8]) -> usize
 
 // The text of a node with two operands: as with the first alone, and the second.
 #[cycle(one_operand_phrase_three_two)]
-fn two(sheet: &[u8], fields: Record, room: &mut [u8]) -> usize
-    requires { AcceptedNode sheet.now fields.a × AcceptedNode sheet.now fields.b × (length (two_text sheet.now fields) ≤ length room.old) }
+fn two(sheet: &Accepted, fields: Record, room: &mut [u8]) -> usize
+    requires { (fields.a < node_count sheet.now) × (fields.b < node_count sheet.now) × (length (two_text sheet.now fields) ≤ length room.old) }
     ensures { Wrote (two_text sheet.now fields) room.old room.new 0 result }
 {
     let next = one(sheet, fields, room);
@@ -91,8 +83,8 @@ fn two(sheet: &[u8], fields: Record, room: &mut [u8]) -> usize
 
 // The text of a node with three operands: as with the first two, and the third.
 #[cycle(one_operand_phrase_three_two)]
-fn three(sheet: &[u8], fields: Record, room: &mut [u8]) -> usize
-    requires { AcceptedNode sheet.now fields.a × AcceptedNode sheet.now fields.b × AcceptedNode sheet.now fields.c × (length (three_text sheet.now fields) ≤ length room.old) }
+fn three(sheet: &Accepted, fields: Record, room: &mut [u8]) -> usize
+    requires { (fields.a < node_count sheet.now) × (fields.b < node_count sheet.now) × (fields.c < node_count sheet.now) × (length (three_text sheet.now fields) ≤ length room.old) }
     ensures { Wrote (three_text sheet.now fields) room.old room.new 0 result }
 {
     let next = two(sheet, fields, room);
@@ -100,11 +92,12 @@ fn three(sheet: &[u8], fields: Record, room: &mut [u8]) -> usize
 }
 
 // The length of a node's word.
-fn own_len(sheet: &[u8], node: NodeNumber) -> usize
-    requires { AcceptedNode sheet.now node.0 }
+fn own_len(sheet: &Accepted, node: NodeNumber) -> usize
+    requires { node.0 < node_count sheet.now }
     ensures { result ≡ length (word_at sheet.now node.0) }
 {
-    let fields = records::record_at(sheet, node);
+    sheet.bytes();
+    let fields = sheet.record(node);
     let kind = fields.kind;
     match kinds::shape_of(kind) {
         Shape::Valued => spelling::value_len(fields.value),
@@ -114,10 +107,11 @@ fn own_len(sheet: &[u8], node: NodeNumber) -> usize
 }
 
 // The length of the words of the first nodes, with a separator behind each.
-pub fn words_len(sheet: &[u8], count: usize) -> usize
-    requires { (refusal_of most_nodes sheet.now ≡ none) × (count ≤ node_count sheet.now) }
+pub fn words_len(sheet: &Accepted, count: usize) -> usize
+    requires { count ≤ node_count sheet.now }
     ensures { result ≡ words_bytes sheet.now count }
 {
+    sheet.bytes();
     let mut size = 0;
     for i in 0..count as u16 {
         size += own_len(sheet, NodeNumber(i)) + 1;

@@ -15,7 +15,7 @@ use Rattle.lists.proofs.RunLaws.{stands_from, run-part}
 use Rattle.lists.proofs.JoinedLaws.{joined-more}
 use Rattle.numbers.specs.Ranges.{Narrow}
 use Rattle.numbers.proofs.Fit.{i16-of-narrow}
-use Rattle.layout.specs.Limits.{most_variables, variable_place, name_start, most_nodes}
+use Rattle.layout.specs.Limits.{most_variables, variable_place, most_nodes}
 use Rattle.layout.specs.Parts.{variable_count, variable_at, name_size, name_in, rule_in}
 use Rattle.reading.specs.Cascade.{refusal_of}
 use Rattle.reading.proofs.RuleLaws.{accepted-counted, accepted-kept}
@@ -32,14 +32,6 @@ module _ (s : List ℕ) (e : refusal_of most_nodes s ≡ none) where
   few-variables = (accepted-counted s e).few
 
   module _ {i p : ℕ} (h : i < variable_count s) (ep : p ≡ variable_place i) where
-    pub record-inside : p + name_start + 255 ≤ length s
-    record-inside =
-        let c = accepted-counted s e in
-        let z = c.size in
-        let y = c.some-node in
-        let f = c.few in
-        omega arith
-
     pub named : {t : List ℕ} → t ≡ take (name_size s p) (drop (p + 6) s) → Named s i t
     named et =
         let k = (accepted-kept s e i h).0.short in
@@ -49,9 +41,9 @@ module _ (s : List ℕ) (e : refusal_of most_nodes s ≡ none) where
 
 pub ruleset few = (few-variables)
 
-pub name-value-from : {s t : List ℕ} {i : ℕ} {z : ℤ} → Named s i t → SFits w16 z → ascii " " ++ t ++ ascii "=" ++ signed (to_z w16 (of_z w16 z)) ≡ name_value (variable_at s i).name z
+pub name-value-from : (t : List ℕ) {z : ℤ} → SFits w16 z → ascii " " ++ t ++ ascii "=" ++ signed (to_z w16 (of_z w16 z)) ≡ name_value t z
 unfolding name_value
-name-value-from n f = rw (n.name, kept-is f)
+name-value-from t f = rw (kept-is f)
 
 -- ---- one variable more
 pub begin : (s : List ℕ) (row : List ℤ) (room : List ℕ) (at : ℕ) → Wrote (name_values_at s row 0) room room at at

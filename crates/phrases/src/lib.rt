@@ -1,16 +1,14 @@
 // The phrases of an answer, written into lent room: numbers in decimal, a refusal, a failing case.
 #![tactic(auto)]
 
-ghost use Rattle.std.specs.Prelude.{◌≡◌, ◌+◌, ◌*◌, ◌≤◌, ◌<◌, length};
-ghost use Rattle.std.proofs.Math.Option.{none};
-ghost use Rattle.layout.specs.Limits.{most_variables, most_nodes};
-ghost use Rattle.layout.specs.Parts.{variable_count, variable_at};
-ghost use Rattle.reading.specs.Cascade.{refusal_of};
+ghost use Rattle.std.specs.Prelude.{◌≡◌, ◌+◌, ◌*◌, ◌≤◌, length};
+ghost use Rattle.layout.specs.Limits.{most_name_bytes, most_variables};
+ghost use Rattle.layout.specs.Parts.{variable_count};
 ghost use Rattle.room.specs.Room.{Wrote};
 ghost use Rattle.numbers.specs.Decimal.{decimal};
 ghost use Rattle.phrases.specs.Phrases.{numbers_text, numbers_line, refusal_line, name_value};
 ghost use Rattle.phrases.specs.Sizes.{longest_pair, longest_numbers, longest_refusal, longest_name_value, longest_fails};
-ghost use Rattle.phrases.specs.Pieces.{Named, Settled, name_values_at, fails_line};
+ghost use Rattle.phrases.specs.Pieces.{Settled, name_values_at, fails_line};
 
 use layout::MOST_VARIABLES;
 use numbers::VariableNumber;
@@ -60,27 +58,18 @@ pub fn refused_line(room: &mut [u8], refusal: Refusal) -> usize
     )
 }
 
-// A variable's name in an accepted sheet.
-fn name_of(sheet: &[u8], n: VariableNumber) -> &[u8]
-    requires { (refusal_of most_nodes sheet.now ≡ none) × (n.0 < variable_count sheet.now) }
-    ensures { Named sheet.now n.0 result.now }
+// A name and a value.
+fn put_name_value(name: &[u8], z: i16, room: &mut [u8], at: usize) -> usize
+    requires { (length name.now ≤ most_name_bytes) × (at + longest_name_value ≤ length room.old) }
+    ensures { Wrote (name_value name.now z) room.old room.new at result × (result ≤ at + longest_name_value) }
 {
-    records::name_in(sheet, records::variable_place(n))
-}
-
-// A variable's name and its value.
-fn put_name_value(sheet: &[u8], n: VariableNumber, z: i16, room: &mut [u8], at: usize) -> usize
-    requires { (refusal_of most_nodes sheet.now ≡ none) × (n.0 < variable_count sheet.now) × (at + longest_name_value ≤ length room.old) }
-    ensures { Wrote (name_value (variable_at sheet.now n.0).name z) room.old room.new at result × (result ≤ at + longest_name_value) }
-{
-    let name = name_of(sheet, n);
     let p = room::put(room, at, b" ");
     let q = room::put(room, p, name);
     let r = room::put(room, q, b"=");
     spelling::put_number(room, r, z)
 }
 
-// Those of the first variables, by a row of values.
+// The names of the first variables, each with its value in a row.
 #[tactic(auto, using(crate::proofs::NameValueLaws::few))]
 fn put_name_values(
     sheet: &[u8],
@@ -94,12 +83,14 @@ fn put_name_values(
 {
     let mut next = at;
     for (i, z) in row[..count].iter().enumerate() {
-        next = put_name_value(sheet, VariableNumber(i as u16), *z, room, next);
+        let name = records::name_in(sheet, records::variable_place(VariableNumber(i as u16)));
+        next = put_name_value(name, *z, room, next);
     }
     next
 }
 
 // The line of a check that fails with the row's values.
+// The sheet is bytes, which is all that a caller of this public function has: `reading::accepted::accept` would read it once more.
 pub fn fails_line(sheet: &[u8], row: &[i16; MOST_VARIABLES], room: &mut [u8]) -> usize
     requires { Settled sheet.now row.now × (longest_fails ≤ length room.old) }
     ensures { Wrote (fails_line sheet.now row.now) room.old room.new 0 result }

@@ -1,5 +1,5 @@
 -- The lines of variables from their parts, and how long they are. Assumes nothing.
-use Prim.Native.Nat.{ℕ, zero, suc, ◌+◌, ◌*◌, ◌≤◌}
+use Prim.Native.Nat.{ℕ, zero, suc, ◌+◌, ◌*◌, ◌≤◌, ◌<◌}
 use mathlib.Core.Path.{◌≡◌, refl, sym, ap, ◌∙◌}
 use mathlib.Core.List.{List, ◌++◌, append_assoc}
 use mathlib.Core.Option.{none}
@@ -13,13 +13,11 @@ use Rattle.lists.proofs.JoinedLaws.{joined-none, length_more}
 use Rattle.numbers.specs.Two.{dec}
 use Rattle.numbers.specs.Bytes.{u16_at, i16_at}
 use Rattle.numbers.specs.Decimal.{signed}
-use Rattle.layout.specs.Limits.{block_bytes, max_offset, most_nodes, variable_place}
+use Rattle.layout.specs.Limits.{max_offset, most_nodes, most_variables, variable_place}
 use Rattle.layout.specs.Parts.{variable_count, variable_at}
-use Rattle.header.proofs.HeaderLaws.{block_inside}
 use Rattle.reading.specs.Cascade.{refusal_of}
 use Rattle.reading.proofs.RuleLaws.{accepted-counted}
 use Rattle.spelling.proofs.NumberLaws.{value-short}
-use Rattle.expressions.specs.Phrases.{AcceptedVariable}
 use Rattle.expressions.proofs.NameLaws.{name-short}
 use Rattle.printer.specs.Lines.{line_at, line_start, line_end, longest_line}
 
@@ -48,16 +46,15 @@ module _ (s : List ℕ) (i : ℕ) {place low high : ℕ} (ep : place ≡ variabl
   pub line-length : length (line_at s i) ≡ 7 + length (variable_at s i).name + length (signed (dec 16 low)) + length (signed (dec 16 high))
   line-length = ap length (sym line-from) ∙ length-append (line_start s i) (line_end low high) ∙ omega (arith, start-length s i, end-length low high)
 
+pub few_variables : (s : List ℕ) → refusal_of most_nodes s ≡ none → variable_count s ≤ most_variables
+few_variables s e = (accepted-counted s e).few
+
 -- how long it can be
-pub line-short : {s : List ℕ} {i : ℕ} → AcceptedVariable s i → length (line_at s i) ≤ longest_line
-line-short {s} {i} ok =
+pub line-short : (s : List ℕ) (i : ℕ) → refusal_of most_nodes s ≡ none → i < variable_count s → length (line_at s i) ≤ longest_line
+line-short s i e l =
     let p = variable_place i in
-    omega (arith, line-length s i refl refl refl, name-short ok, value-short (u16_at s p), value-short (u16_at s (p + max_offset)))
+    omega (arith, line-length s i refl refl refl, name-short s i e l, value-short (u16_at s p), value-short (u16_at s (p + max_offset)))
 
 pub lines-short : (s : List ℕ) → refusal_of most_nodes s ≡ none → (n : ℕ) → n ≤ variable_count s → length (joined_below (line_at s) n) ≤ longest_line * n
 lines-short s e zero l = rw (joined-none (line_at s)) (lit≤ tt)
-lines-short s e (suc n) l = omega (arith, lines-short s e n (omega arith), rw add-one at (length_more (line_at s) n), line-short (record { accepted = e; below = l }))
-
--- the first block is there
-pub first_block : (s : List ℕ) → refusal_of most_nodes s ≡ none → block_bytes ≤ length s
-first_block s e = block_inside (accepted-counted s e)
+lines-short s e (suc n) l = omega (arith, lines-short s e n (omega arith), rw add-one at (length_more (line_at s) n), line-short s n e l)

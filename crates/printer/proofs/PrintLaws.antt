@@ -9,7 +9,6 @@ use borrow.Author.Tests.{le-leb}
 use lib.ListN.{length}
 use Rattle.lists.specs.First.{first}
 use Rattle.lists.proofs.FirstLaws.{otherwise-none, otherwise-some}
-use Rattle.refusals.specs.declared.Refusal.{Refusal}
 use Rattle.refusals.specs.declared.Cause.TheVariants.{Room}
 use Rattle.refusals.specs.Causes.{refusal_of as told}
 use Rattle.refusals.proofs.AfterLaws.{passes, stops}
@@ -25,16 +24,16 @@ use Rattle.room.proofs.WrittenLaws.{fills-once, fills-refused, fills-done}
 use Rattle.texts.specs.Plain.{text_of}
 use Rattle.texts.specs.WordKinds.{behind_word, is_none}
 use Rattle.texts.specs.Places.{is_plain_name}
-use Rattle.expressions.specs.Phrases.{AcceptedVariable, NameAt}
 use Rattle.printer.specs.Prints.{word_refusal, text_refusal, Prints}
-use Rattle.expressions.proofs.NameLaws.{name-short}
+use Rattle.expressions.proofs.NameLaws.{kept-short}
 
 -- the name of an accepted sheet's variable is plain where it is no word
-pub plain-is : {s t : List ℕ} {i : ℕ} {b : Bool} → AcceptedVariable s i → NameAt s i t → b ≡ is_plain_name t → b ≡ is_none (behind_word (variable_at s i).name)
+pub plain-is : (s : List ℕ) (i : ℕ) → refusal_of most_nodes s ≡ none → i < variable_count s → {t : List ℕ} {b : Bool} → t ≡ (variable_at s i).name → b ≡ is_plain_name t → b ≡ is_none (behind_word (variable_at s i).name)
 unfolding is_plain_name
-plain-is {s} {t} {i} ok n e =
-    let right = (name-decided (variable_at s i).name).1 (accepted-kept s ok.accepted i ok.below).0.name in
-    e ∙ rw (n.name, right, le-leb _ _ (name-short ok))
+plain-is s i e l n q =
+    let k = accepted-kept s e i l in
+    let right = (name-decided (variable_at s i).name).1 k.0.name in
+    q ∙ rw (n, right, le-leb _ _ (kept-short s i k))
 
 module _ (s : List ℕ) where
   pub sheet-refused : (before : List ℕ) {a : Result ℕ Refused} {e : Refused} → a ≡ Err e → some (told e) ≡ refusal_of most_nodes s → Prints most_nodes s before a before

@@ -1,4 +1,5 @@
 // The plain text of a sheet's rule, written into lent room.
+// `sheet.bytes()` stands alone where a proof needs that the sheet is accepted, which that method's clause says.
 #![tactic(auto)]
 
 ghost use Rattle.std.specs.Prelude.{◌≡◌, ◌++◌, ◌+◌, ◌≤◌, ◌<◌, length};
@@ -10,18 +11,18 @@ ghost use Rattle.numbers.specs.Two.{dec};
 ghost use Rattle.numbers.specs.Decimal.{signed};
 ghost use Rattle.refusals.specs.Said.{said_of};
 ghost use Rattle.layout.specs.Limits.{most_nodes};
-ghost use Rattle.layout.specs.Parts.{goal_at, variable_count, variable_at, rule_in};
+ghost use Rattle.layout.specs.Parts.{variable_count, variable_at, rule_in};
 ghost use Rattle.reading.specs.Cascade.{refusal_of};
 ghost use Rattle.room.specs.Room.{Wrote};
 ghost use Rattle.texts.specs.Plain.{text_of};
 ghost use Rattle.texts.specs.WordKinds.{behind_word, is_none};
-ghost use Rattle.expressions.specs.Phrases.{AcceptedVariable};
 ghost use Rattle.printer.specs.Lines.{line_at, line_start, line_end, goal_text};
 ghost use Rattle.printer.specs.Prints.{word_refusal, Prints};
 
 use expressions::BLANK;
 use layout::MAX_OFFSET;
-use numbers::{NodeNumber, VariableNumber};
+use numbers::VariableNumber;
+use reading::accepted::{self, Accepted};
 use refusals::{Cause, Refused};
 
 // A room of so many bytes is enough for the text of every accepted sheet.
@@ -47,8 +48,8 @@ fn spaced_value(room: &mut [u8], at: usize, bits: u16) -> usize
 }
 
 // A variable's line up to its name.
-fn named_start(sheet: &[u8], n: VariableNumber, room: &mut [u8], at: usize) -> usize
-    requires { AcceptedVariable sheet.now n.0 × (at + length (line_start sheet.now n.0) ≤ length room.old) }
+fn named_start(sheet: &Accepted, n: VariableNumber, room: &mut [u8], at: usize) -> usize
+    requires { (n.0 < variable_count sheet.now) × (at + length (line_start sheet.now n.0) ≤ length room.old) }
     ensures { Wrote (line_start sheet.now n.0) room.old room.new at result }
 {
     let next = room::put(room, at, &VAR);
@@ -66,126 +67,95 @@ fn line_end(room: &mut [u8], at: usize, low: u16, high: u16) -> usize
 }
 
 // A variable's line.
-fn variable_line(sheet: &[u8], n: VariableNumber, room: &mut [u8], at: usize) -> usize
-    requires { AcceptedVariable sheet.now n.0 × (at + length (line_at sheet.now n.0) ≤ length room.old) }
+fn variable_line(sheet: &Accepted, n: VariableNumber, room: &mut [u8], at: usize) -> usize
+    requires { (n.0 < variable_count sheet.now) × (at + length (line_at sheet.now n.0) ≤ length room.old) }
     ensures { Wrote (line_at sheet.now n.0) room.old room.new at result }
 {
     let place = records::variable_place(n);
-    let low = numbers::u16_at(sheet, place);
-    let high = numbers::u16_at(sheet, place + MAX_OFFSET);
+    let bytes = sheet.bytes();
+    let low = numbers::u16_at(bytes, place);
+    let high = numbers::u16_at(bytes, place + MAX_OFFSET);
     let next = named_start(sheet, n, room, at);
     line_end(room, next, low, high)
 }
 
-// The lines of the first variables.
-fn variable_lines(sheet: &[u8], count: usize, room: &mut [u8]) -> usize
-    requires { (refusal_of most_nodes sheet.now ≡ none) × (count ≤ variable_count sheet.now) × (length (joined_below (line_at sheet.now) count) ≤ length room.old) }
-    ensures { Wrote (joined_below (line_at sheet.now) count) room.old room.new 0 result }
+// V, as what numbers the variables.
+#[tactic(auto, using(crate::proofs::LineLaws::few_variables))]
+fn variables(sheet: &Accepted) -> u16
+    ensures same { result ≡ variable_count sheet.now }
+    ensures accepted { refusal_of most_nodes sheet.now ≡ none }
+{
+    sheet.bytes();
+    sheet.variable_count() as u16
+}
+
+// The lines of all variables.
+fn variable_lines(sheet: &Accepted, room: &mut [u8]) -> usize
+    requires { length (joined_below (line_at sheet.now) (variable_count sheet.now)) ≤ length room.old }
+    ensures { Wrote (joined_below (line_at sheet.now) (variable_count sheet.now)) room.old room.new 0 result }
 {
     let mut next = 0;
-    for variable in 0..count {
-        next = variable_line(sheet, VariableNumber(variable as u16), room, next);
+    for variable in 0..variables(sheet) {
+        next = variable_line(sheet, VariableNumber(variable), room, next);
     }
     next
 }
 
 // The length of a variable's line.
-fn line_len(sheet: &[u8], n: VariableNumber) -> usize
-    requires { AcceptedVariable sheet.now n.0 }
+fn line_len(sheet: &Accepted, n: VariableNumber) -> usize
+    requires { n.0 < variable_count sheet.now }
     ensures { result ≡ length (line_at sheet.now n.0) }
 {
     let place = records::variable_place(n);
+    let bytes = sheet.bytes();
     let name = expressions::name_len(sheet, n);
-    let low = spelling::value_len(numbers::u16_at(sheet, place));
-    let high = spelling::value_len(numbers::u16_at(sheet, place + MAX_OFFSET));
+    let low = spelling::value_len(numbers::u16_at(bytes, place));
+    let high = spelling::value_len(numbers::u16_at(bytes, place + MAX_OFFSET));
     LINE_BYTES + name + low + high
 }
 
-// The length of the lines of the first variables.
-fn lines_len(sheet: &[u8], count: usize) -> usize
-    requires { (refusal_of most_nodes sheet.now ≡ none) × (count ≤ variable_count sheet.now) }
-    ensures { result ≡ length (joined_below (line_at sheet.now) count) }
+// The length of the lines of all variables.
+fn lines_len(sheet: &Accepted) -> usize
+    ensures { result ≡ length (joined_below (line_at sheet.now) (variable_count sheet.now)) }
 {
     let mut size = 0;
-    for variable in 0..count {
-        size += line_len(sheet, VariableNumber(variable as u16));
+    for variable in 0..variables(sheet) {
+        size += line_len(sheet, VariableNumber(variable));
     }
     size
 }
 
-// The last node.
-fn goal_node(sheet: &[u8]) -> NodeNumber
-    requires { refusal_of most_nodes sheet.now ≡ none }
-    ensures { result.0 ≡ goal_at sheet.now }
-{
-    NodeNumber((header::node_count(sheet) - 1) as u16)
-}
-
 // The goal's line.
-fn goal_line(sheet: &[u8], room: &mut [u8], at: usize) -> usize
-    requires { (refusal_of most_nodes sheet.now ≡ none) × (at + length (goal_text sheet.now) ≤ length room.old) }
+fn goal_line(sheet: &Accepted, room: &mut [u8], at: usize) -> usize
+    requires { at + length (goal_text sheet.now) ≤ length room.old }
     ensures { Wrote (goal_text sheet.now) room.old room.new at result }
 {
-    let goal = goal_node(sheet);
+    sheet.bytes();
     let p = room::put(room, at, &GOAL);
-    let q = expressions::operand(sheet, goal, room, p);
+    let q = expressions::operand(sheet, sheet.goal(), room, p);
     room::put(room, q, &LINE_FEED)
 }
 
-// The text, to the front of the room; its bytes.
-fn put_text(sheet: &[u8], room: &mut [u8]) -> usize
-    requires { (refusal_of most_nodes sheet.now ≡ none) × (length (text_of (rule_in sheet.now)) ≤ length room.old) }
-    ensures { Wrote (text_of (rule_in sheet.now)) room.old room.new 0 result }
-{
-    let next = variable_lines(sheet, header::variable_count(sheet), room);
-    goal_line(sheet, room, next)
-}
-
 // The length of the text.
-fn text_len(sheet: &[u8]) -> usize
-    requires { refusal_of most_nodes sheet.now ≡ none }
+fn text_len(sheet: &Accepted) -> usize
     ensures { result ≡ length (text_of (rule_in sheet.now)) }
 {
-    let lines = lines_len(sheet, header::variable_count(sheet));
-    let words = expressions::words_len(sheet, header::node_count(sheet));
+    sheet.bytes();
+    let lines = lines_len(sheet);
+    let words = expressions::words_len(sheet, sheet.node_count());
     lines + GOAL.len() + BLANK.len() + words
 }
 
-// The text of an accepted sheet whose names are no words, or refusal 9 at the bytes that it needs.
-fn print_named(sheet: &[u8], room: &mut [u8]) -> Result<usize, Refused>
-    requires { (refusal_of most_nodes sheet.now ≡ none) × (first (word_refusal sheet.now) 0 (variable_count sheet.now) ≡ none) }
-    ensures { Prints most_nodes sheet.now room.old result room.new }
-{
-    let size = text_len(sheet);
-    if room.len() < size {
-        return Err(Refused {
-            cause: Cause::Room,
-            place: size,
-        });
-    }
-    Ok(put_text(sheet, room))
-}
-
-// Whether a variable's name is no word.
-fn plain_name(sheet: &[u8], n: VariableNumber) -> bool
-    requires { AcceptedVariable sheet.now n.0 }
-    ensures { result ≡ is_none (behind_word (variable_at sheet.now n.0).name) }
-{
-    let name = expressions::name_of(sheet, n);
-    words::is_plain_name(name)
-}
-
 // Refusal 19: the lowest variable whose name is a word.
-fn read_names(sheet: &[u8]) -> Result<(), Refused>
-    requires { refusal_of most_nodes sheet.now ≡ none }
+fn read_names(sheet: &Accepted) -> Result<(), Refused>
     ensures { said_of result ≡ first (word_refusal sheet.now) 0 (variable_count sheet.now) }
 {
-    let count = header::variable_count(sheet);
+    let count = variables(sheet);
     for checked in 0..count {
-        if !plain_name(sheet, VariableNumber(checked as u16)) {
+        if !words::is_plain_name(sheet.name(VariableNumber(checked))) {
             return Err(Refused {
                 cause: Cause::Word,
-                place: checked,
+                place: checked as usize,
             });
         }
     }
@@ -193,18 +163,26 @@ fn read_names(sheet: &[u8]) -> Result<(), Refused>
 }
 
 // The text of an accepted sheet, or refusal 19 or 9.
-fn print_accepted(sheet: &[u8], room: &mut [u8]) -> Result<usize, Refused>
-    requires { refusal_of most_nodes sheet.now ≡ none }
+fn print_accepted(sheet: &Accepted, room: &mut [u8]) -> Result<usize, Refused>
     ensures { Prints most_nodes sheet.now room.old result room.new }
 {
+    sheet.bytes();
     read_names(sheet)?;
-    print_named(sheet, room)
+    let size = text_len(sheet);
+    if room.len() < size {
+        return Err(Refused {
+            cause: Cause::Room,
+            place: size,
+        });
+    }
+    let next = variable_lines(sheet, room);
+    Ok(goal_line(sheet, room, next))
 }
 
 // The text to the front of the room; a refusal leaves the room untouched.
 pub fn print(sheet: &[u8], room: &mut [u8]) -> Result<usize, Refused>
     ensures { Prints most_nodes sheet.now room.old result room.new }
 {
-    reading::read(sheet)?;
-    print_accepted(sheet, room)
+    let sheet = accepted::accept(sheet)?;
+    print_accepted(&sheet, room)
 }

@@ -13,6 +13,6 @@ returns c =
     let z = signed-short c.ranges.z in (
       wrote_as
           (chain4 (omega arith) c.put-p.ensures c.put-q.ensures c.put-r.ensures c.put_number.ensures)
-          (name-value-from c.name_of-name.ensures c.ranges.z),
-      omega (arith, c.name_of-name.ensures.short),
+          (name-value-from _ c.ranges.z),
+      omega arith,
     )

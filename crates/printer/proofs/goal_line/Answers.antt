@@ -8,15 +8,15 @@ use Rattle.printer.proofs.TextLaws.{goal-ready, goal-length, goal-from}
 use Rattle.printer.proofs.goal_line.Goals as goal
 
 pub put-p-requires : goal.put-p-requires
-put-p-requires c = omega (arith, goal-length _ c.requires.0)
+put-p-requires c = omega (arith, goal-length _ c.bytes.ensures.accepted)
 
 pub operand-q-requires : goal.operand-q-requires
-operand-q-requires c = let g = c.goal_node-goal.ensures in (goal-ready _ c.requires.0 g, omega (arith, goal-length _ c.requires.0, ap (λ n. length (phrase_at c.args.sheet.now n)) g))
+operand-q-requires c = let g = c.goal.ensures in ((goal-ready _ c.bytes.ensures.accepted g).below, omega (arith, goal-length _ c.bytes.ensures.accepted, ap (λ n. length (phrase_at c.args.sheet.now n)) g))
 
 pub put-requires : goal.put-requires
 put-requires c =
-    omega (arith, goal-length _ c.requires.0, ap (λ n. length (phrase_at c.args.sheet.now n)) c.goal_node-goal.ensures)
+    omega (arith, goal-length _ c.bytes.ensures.accepted, ap (λ n. length (phrase_at c.args.sheet.now n)) c.goal.ensures)
 
 pub returns : goal.returns
 returns c =
-    wrote_as (chain3 (omega (arith, goal-length _ c.requires.0, ap (λ n. length (phrase_at c.args.sheet.now n)) c.goal_node-goal.ensures)) c.put-p.ensures c.operand-q.ensures c.put.ensures) (goal-from _ c.requires.0 c.goal_node-goal.ensures)
+    wrote_as (chain3 (omega (arith, goal-length _ c.bytes.ensures.accepted, ap (λ n. length (phrase_at c.args.sheet.now n)) c.goal.ensures)) c.put-p.ensures c.operand-q.ensures c.put.ensures) (goal-from _ c.bytes.ensures.accepted c.goal.ensures)

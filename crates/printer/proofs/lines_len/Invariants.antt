@@ -1,5 +1,4 @@
 -- `printer::lines_len` meets its contract: after i turns the lines of the first i variables are counted. Assumes nothing.
-use Prim.Native.Nat.{◌-◌, ◌≤◌}
 use mathlib.Core.Path.{◌≡◌}
 use lib.ListN.{length}
 use Rattle.lists.specs.Joined.{joined_below}

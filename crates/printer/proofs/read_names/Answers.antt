@@ -2,32 +2,24 @@
 use mathlib.Core.Path.{sym, ◌∙◌}
 use native.Mathlib.Nat.{sub-zero}
 use native.Mathlib.Omega.{arith}
-use borrow.Author.Rules.{rules}
 use Rattle.lists.proofs.FirstLaws.{left-pass, left-stop, left-done}
 use Rattle.refusals.proofs.SaidLaws.{unless-true, unless-false}
-use Rattle.reading.proofs.RuleLaws.{accepted-counted}
-use Rattle.printer.proofs.LineLaws.{first_block}
+use Rattle.printer.proofs.PrintLaws.{plain-is}
 use Rattle.printer.proofs.read_names.Goals as goal
 
-pub variable_count-count-requires : goal.variable_count-count-requires
-variable_count-count-requires c = first_block _ c.requires
-
 pub loop-checked-init : goal.loop-checked-init
-loop-checked-init c = rw (sub-zero, c.variable_count-count.ensures)
+loop-checked-init c = rw (sub-zero, c.variables-count.ensures.same)
 
-pub overflow_cast-checked : goal.overflow_cast-checked
-overflow_cast-checked c = omega (arith, (accepted-counted _ c.requires).few)
+pub name-requires : goal.name-requires
+name-requires c = omega (arith, c.variables-count.ensures.same)
 
-pub plain_name-requires : goal.plain_name-requires
-plain_name-requires c = record { accepted = c.requires; below = omega (arith, c.variable_count-count.ensures) }
-
-pub returns-then-not-plain_name : goal.returns-then-not-plain_name
-returns-then-not-plain_name c =
-    sym (c.loop-checked.invariant ∙ left-stop _ c.loop-checked-test.true (unless-false 19 _ (sym c.plain_name.ensures ∙ c.if-not-plain_name.true)))
+pub returns-then-not-is_plain_name : goal.returns-then-not-is_plain_name
+returns-then-not-is_plain_name c =
+    sym (c.loop-checked.invariant ∙ left-stop _ c.loop-checked-test.true (unless-false 19 _ (sym (plain-is _ _ c.variables-count.ensures.accepted (omega (arith, c.variables-count.ensures.same)) c.name.ensures c.is_plain_name.ensures) ∙ c.if-not-is_plain_name.true)))
 
 pub loop-checked-preserved : goal.loop-checked-preserved
 loop-checked-preserved c =
-    c.loop-checked.invariant ∙ left-pass _ c.loop-checked-test.true (unless-true 19 _ (sym c.plain_name.ensures ∙ c.if-not-plain_name.false))
+    c.loop-checked.invariant ∙ left-pass _ c.loop-checked-test.true (unless-true 19 _ (sym (plain-is _ _ c.variables-count.ensures.accepted (omega (arith, c.variables-count.ensures.same)) c.name.ensures c.is_plain_name.ensures) ∙ c.if-not-is_plain_name.false))
 
 pub returns : goal.returns
 returns c = sym (c.loop-checked.invariant ∙ left-done _ c.loop-checked-test.false)

@@ -1,5 +1,5 @@
 -- `printer::read_names` meets its contract: the loop's invariant is that the answer over all variables is the answer over those not yet checked. Assumes nothing.
-use Prim.Native.Nat.{◌≤◌, ◌-◌}
+use Prim.Native.Nat.{◌-◌}
 use mathlib.Core.Path.{◌≡◌}
 use Rattle.lists.specs.First.{first}
 use Rattle.layout.specs.Parts.{variable_count}

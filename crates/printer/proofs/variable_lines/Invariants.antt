@@ -1,5 +1,4 @@
 -- `printer::variable_lines` meets its contract: after i turns the room has the lines of the first i variables in it. Assumes nothing.
-use Prim.Native.Nat.{◌-◌, ◌≤◌}
 use mathlib.Core.Path.{◌≡◌}
 use lib.ListN.{length}
 use Rattle.lists.specs.Joined.{joined_below}
