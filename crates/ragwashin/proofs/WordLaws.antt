@@ -6,7 +6,7 @@ use mathlib.Core.List.{List, [], ◌∷◌}
 use denote.Ref.{Bor}
 use lib.Dec.{eqb}
 use lib.Pointwise.{pointwise}
-use Rattle.std.specs.Prelude.{Option, Some, None}
+use Rattle.std.specs.Prelude.{Option, Some, None, MatchOption, IsSomeAnd}
 use Rattle.std.specs.List.{find}
 use Rattle.std.specs.Option.{option_map}
 use Rattle.std.specs.Str.{bytes_eq}
@@ -37,9 +37,14 @@ in-rows [] t = refl
 in-rows (r ∷ rs) t =
     row-at r (find (λ r. bytes_eq t r.0.now) rs) (word_in rs t) (bytes_eq t r.0.now) (same_bytes t r.0.now) (equal-bytes t r.0.now) (in-rows rs t)
 
+told : (o : Option (Bor Row)) (r : Option Word) (Q : Bor Row → Word → Type 0) → MatchOption o (r ≡ None) (λ x. IsSomeAnd r (Q x)) → ((x : Bor Row) (w : Word) → Q x w → w ≡ x.now.1) → r ≡ word_at (option_map (λ b. b.now) o)
+told None r Q m f = m
+told (Some x) None Q m f = absurd m
+told (Some x) (Some w) Q m f = ap Some (f x w m)
+
 -- what the search finds in the rows rs, which are those of the table
-pub looked-up : (t : List ℕ) (rs : List Row) {table : List Row} → rs ≡ table → word_in table t ≡ word_of t → (o : Option (Bor Row)) → option_map (λ b. b.now) o ≡ find (λ r. bytes_eq t r.0.now) rs → word_at (option_map (λ b. b.now) o) ≡ word_of t
-looked-up t rs h k o e = ap word_at e ∙ in-rows rs t ∙ ap (λ (l : List Row). word_in l t) h ∙ k
+pub looked-up : (t : List ℕ) (rs : List Row) {table : List Row} → rs ≡ table → word_in table t ≡ word_of t → (o : Option (Bor Row)) → option_map (λ b. b.now) o ≡ find (λ r. bytes_eq t r.0.now) rs → (r : Option Word) (Q : Bor Row → Word → Type 0) → MatchOption o (r ≡ None) (λ x. IsSomeAnd r (Q x)) → ((x : Bor Row) (w : Word) → Q x w → w ≡ x.now.1) → r ≡ word_of t
+looked-up t rs h k o e r Q m f = told o r Q m f ∙ ap word_at e ∙ in-rows rs t ∙ ap (λ (l : List Row). word_in l t) h ∙ k
 
 -- equal bytes, as the library tests an ending
 pub same-ending : (end s : List ℕ) → pointwise eqb end s ≡ same_bytes s end

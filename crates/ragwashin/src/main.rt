@@ -114,8 +114,10 @@ const WORDS: [(&[u8], Word); 9] = [
 fn word_of(text: &[u8]) -> Option<Word>
     ensures { result ≡ word_of text.now }
 {
-    let (_, word) = WORDS.iter().find(|(name, _)| text == *name)?;
-    Some(*word)
+    WORDS
+        .iter()
+        .find(|(name, _)| text == *name)
+        .map(|(_, word)| *word)
 }
 
 // Answers of one line can follow one another; scripts cannot.
