@@ -32,9 +32,9 @@ use Rattle.maker.specs.Lays.{Counts, SheetReady, sheet_refusal, Lays}
 use Rattle.maker.proofs.LayLaws.{variables-are, nodes-are}
 
 -- ---- a sheet
-pub sheet-refused : (s before : List ℕ) {a : Result ℕ Refused} {e : Refused} → a ≡ Err e → some (told e) ≡ refusal_of most_nodes s → Fills (sheet_refusal most_nodes s (length before)) s before a before
+pub sheet-refused : (s before : List ℕ) {a : Result ℕ Refused} {e : Refused} → a ≡ Err e → refusal_of most_nodes s ≡ some (told e) → Fills (sheet_refusal most_nodes s (length before)) s before a before
 unfolding sheet_refusal
-sheet-refused s before p d = fills-refused s before p (otherwise-some _ (sym d))
+sheet-refused s before p d = fills-refused s before p (otherwise-some _ d)
 
 module _ (s : List ℕ) (ok : refusal_of most_nodes s ≡ none) where
   pub room-short : (before : List ℕ) → length before < length s → Fills (sheet_refusal most_nodes s (length before)) s before (Err (record { cause = Room; place = length s })) before

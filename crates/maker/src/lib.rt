@@ -2,9 +2,7 @@
 #![tactic(auto)]
 
 ghost use Rattle.std.specs.Prelude.{◌≡◌, true, ◌+◌, ◌≤◌, ◌<◌, length, replicate};
-ghost use Rattle.std.proofs.Math.Option.{none};
 ghost use Rattle.layout.specs.Limits.{most_variables, most_nodes, sheet_bytes, most_sheet_bytes};
-ghost use Rattle.reading.specs.Cascade.{refusal_of};
 ghost use Rattle.texts.specs.Numbers.{is_number, number_of};
 ghost use Rattle.texts.specs.Texts.{Text};
 ghost use Rattle.sheets.specs.Laying.{with_variable};
@@ -14,6 +12,7 @@ ghost use Rattle.maker.specs.Lays.{between, variable_between, BetweenReady, Line
 
 use layout::{BLOCK_BYTES, MOST_NODES, MOST_SHEET_BYTES, MOST_VARIABLES, NODES_IN_BLOCK};
 use numbers::VariableNumber;
+use reading::accepted::{self, Accepted};
 use refusals::{Cause, Refused};
 
 // The bytes before a line's name and before the goal's expression: a word and a space.
@@ -79,25 +78,25 @@ fn lay(text: &[u8], variables: usize, nodes: usize, sheet: &mut [u8])
 }
 
 // An accepted sheet to the front of the room, or refusal 9 at its bytes.
-fn deliver_accepted(sheet: &[u8], room: &mut [u8]) -> Result<usize, Refused>
-    requires { refusal_of most_nodes sheet.now ≡ none }
+fn deliver_accepted(sheet: &Accepted, room: &mut [u8]) -> Result<usize, Refused>
     ensures { Fills (sheet_refusal most_nodes sheet.now (length room.old)) sheet.now room.old result room.new }
 {
-    if room.len() < sheet.len() {
+    let bytes = sheet.bytes();
+    if room.len() < bytes.len() {
         return Err(Refused {
             cause: Cause::Room,
-            place: sheet.len(),
+            place: bytes.len(),
         });
     }
-    Ok(room::put(room, 0, sheet))
+    Ok(room::put(room, 0, bytes))
 }
 
 // A sheet to the front of the room, or its refusal, or 9.
 fn deliver(sheet: &[u8], room: &mut [u8]) -> Result<usize, Refused>
     ensures { Fills (sheet_refusal most_nodes sheet.now (length room.old)) sheet.now room.old result room.new }
 {
-    reading::read(sheet)?;
-    deliver_accepted(sheet, room)
+    let sheet = accepted::accept(sheet)?;
+    deliver_accepted(&sheet, room)
 }
 
 // The sheet of a text, laid in a room of zeros, to the front of the other room.

@@ -5,7 +5,7 @@ use Rattle.std.specs.Prelude.{Err}
 use Rattle.maker.proofs.MakeLaws.{sheet-refused}
 use Rattle.maker.proofs.deliver.Goals as goal
 
-pub returns-in_err-read : goal.returns-in_err-read
-returns-in_err-read c =
-    let d : c.from_residual.result ≡ Err c.in_err-read.field-0.0 = search rules in
-    sheet-refused _ _ d c.in_err-read.ensures
+pub returns-in_err-sheet : goal.returns-in_err-sheet
+returns-in_err-sheet c =
+    let d : c.from_residual.result ≡ Err c.in_err-sheet.field-0.0 = search rules in
+    sheet-refused _ _ d c.in_err-sheet.ensures

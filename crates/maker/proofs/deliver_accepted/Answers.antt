@@ -3,11 +3,12 @@ use native.Mathlib.Omega.{arith}
 use Rattle.maker.proofs.MakeLaws.{room-short, sheet-written}
 use Rattle.maker.proofs.deliver_accepted.Goals as goal
 
-pub returns-then-room-sheet : goal.returns-then-room-sheet
-returns-then-room-sheet c = room-short _ c.requires _ c.if-room-sheet.true
-
-pub put-requires : goal.put-requires
-put-requires c = omega arith
+pub returns-then-room-bytes : goal.returns-then-room-bytes
+returns-then-room-bytes c =
+    let e = c.bytes-bytes.ensures.same in
+    rw e (room-short _ c.bytes-bytes.ensures.accepted _ (rw e at c.if-room-bytes.true))
 
 pub returns : goal.returns
-returns c = sheet-written _ c.requires (omega arith) c.put.ensures
+returns c =
+    let e = c.bytes-bytes.ensures.same in
+    sheet-written _ c.bytes-bytes.ensures.accepted (rw e at c.if-room-bytes.false) (rw e at c.put.ensures)
