@@ -7,6 +7,7 @@ use native.Mathlib.Numerals.{add-one}
 use native.Mathlib.Omega.{arith}
 use denote.Ref.{Bor}
 use lib.Dec.{eqb, leb}
+use Rattle.kinds.specs.declared.Kind.{Kind}
 use Rattle.std.specs.List.{list_any}
 use Rattle.std.specs.Cmp.Lexicographic.{pointwise}
 use lib.ListN.{length, get_or, take, drop, drop_of_length-le}
@@ -93,10 +94,10 @@ module _ {text u : List ℕ} {count line i : ℕ} (w : Comparing text u count li
 
 -- ---- the kinds' words
 
-pub begun-any : (u : List ℕ) (ws : List (Bor (List ℕ))) → list_any (λ w. beginning u w.now) ws ≡ begins_any (map (λ w. w.now) ws) u
+pub begun-any : (u : List ℕ) (rows : List (Bor (List ℕ) × Kind)) → list_any (λ r. beginning u r.0.now) rows ≡ begins_any (map (λ r. r.0.now) rows) u
 unfolding begins_any
 begun-any u [] = refl
-begun-any u (w ∷ ws) = ap (λ (b : Bool). beginning u w.now || b) (begun-any u ws)
+begun-any u (r ∷ rows) = ap (λ (b : Bool). beginning u r.0.now || b) (begun-any u rows)
 
 -- ---- how far a word begins: k bytes do
 

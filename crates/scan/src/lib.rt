@@ -10,6 +10,7 @@ ghost use Rattle.scan.specs.Scanned.{ScanSays};
 ghost use Rattle.scan.specs.States.{place_at, word_at, Stands, to, from_line, from_name, from_number, from_operand, onward_at, Steps, stop_of, stop_at};
 
 use layout::MOST_NAME_BYTES;
+use words::WORDED;
 
 // What the next word is: a line's first, a variable's name, its least or its greatest number, or a word of the goal. Behind the goal there is none.
 #[derive(Clone, Copy)]
@@ -192,17 +193,11 @@ fn begins_declared(text: &[u8], count: usize, bytes: &[u8]) -> bool
     false
 }
 
-// The kinds' words.
-const KIND_WORDS: [&[u8]; 15] = [
-    b"true", b"false", b"not", b"and", b"or", b"implies", b"iff", b"eq", b"lt", b"le", b"neg",
-    b"add", b"sub", b"mul", b"if",
-];
-
 // Whether they begin a kind's word.
 fn begins_kind(bytes: &[u8]) -> bool
     ensures { result ≡ begins_any (plain_words worded) bytes.now }
 {
-    KIND_WORDS.iter().any(|word| beginning(bytes, word))
+    WORDED.iter().any(|(word, _)| beginning(bytes, word))
 }
 
 // Whether they begin a word of the goal.

@@ -8,7 +8,7 @@ ghost use Rattle.grammar.specs.Words.{word_length};
 ghost use Rattle.texts.specs.Numbers.{is_digit, all_digits, value_from, spare_zero, is_decimal, zero_first, is_number, number_of};
 ghost use Rattle.texts.specs.WordKinds.{kind_named};
 ghost use Rattle.texts.specs.Places.{separates, first_word, behind_var, behind_line, is_plain_name, index_in, names_in};
-ghost use Rattle.words.specs.Operands.{behind_said, counted};
+ghost use Rattle.words.specs.Operands.{behind_said};
 ghost use Rattle.texts.specs.Counts.{occurrences};
 
 use kinds::{Kind, Shape};
@@ -36,7 +36,7 @@ pub fn word_end(text: &[u8], start: usize) -> usize
 }
 
 // The kinds that have a plain word, each behind its word.
-const WORDED: [(&[u8], Kind); 15] = [
+pub const WORDED: [(&[u8], Kind); 15] = [
     (b"true", Kind::True),
     (b"false", Kind::False),
     (b"not", Kind::Not),
@@ -175,13 +175,6 @@ pub fn operands_behind(kind: Kind) -> Option<usize>
         Shape::Two(_, _) => Some(2),
         Shape::Three(_, _, _) => Some(3),
     }
-}
-
-// How many operands stand behind a kind's plain word, and one more; 0 where it has no word.
-pub fn operands(kind: Kind) -> usize
-    ensures { result ≡ counted (operands_behind (row kind).shape) }
-{
-    operands_behind(kind).map_or(0, |n| n + 1)
 }
 
 // Whether this is a name, and no word.
