@@ -14,11 +14,7 @@ use layout::{BLOCK_BYTES, MOST_NODES, MOST_SHEET_BYTES, MOST_VARIABLES, NODES_IN
 use numbers::VariableNumber;
 use reading::accepted::{self, Accepted};
 use refusals::{Cause, Refused};
-
-// The bytes before a line's name and before the goal's expression: a word and a space.
-const NAME_START: usize = 4;
-
-const GOAL_START: usize = 5;
+use words::{GOAL_START, NAME_START};
 
 // The spaces of a variable's line.
 const LINE_SPACES: usize = 3;
@@ -123,7 +119,12 @@ fn sheet_size(nodes: usize) -> usize
 }
 
 // The sheet of a text within the limits.
-fn make_sheet(text: &[u8], variables: usize, nodes: usize, room: &mut [u8]) -> Result<usize, Refused>
+fn make_sheet(
+    text: &[u8],
+    variables: usize,
+    nodes: usize,
+    room: &mut [u8],
+) -> Result<usize, Refused>
     requires { Counts text.now variables nodes × (variables ≤ most_variables) × (nodes ≤ most_nodes) }
     ensures { Makes most_nodes text.now room.old result room.new }
 {
@@ -133,7 +134,12 @@ fn make_sheet(text: &[u8], variables: usize, nodes: usize, room: &mut [u8]) -> R
 }
 
 // The sheet of a text, or refusal 4 where a sheet can't have so much.
-fn make_counted(text: &[u8], variables: usize, nodes: usize, room: &mut [u8]) -> Result<usize, Refused>
+fn make_counted(
+    text: &[u8],
+    variables: usize,
+    nodes: usize,
+    room: &mut [u8],
+) -> Result<usize, Refused>
     requires { Counts text.now variables nodes }
     ensures { Makes most_nodes text.now room.old result room.new }
 {

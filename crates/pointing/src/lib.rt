@@ -12,12 +12,7 @@ ghost use Rattle.pointing.specs.Standing.{operand_count, Begun, Spans, Reaches, 
 ghost use Rattle.pointing.specs.Lines.{LineBegun, PassesLine, LinesReach, LineAt};
 
 use refusals::{Cause, Refusal};
-
-// The bytes before a line's name: `var` and a space.
-const NAME_START: usize = 4;
-
-// The bytes before the goal's expression: `goal` and a space.
-const GOAL_START: usize = 5;
+use words::{GOAL_START, NAME_START};
 
 // The place behind an expression and its separator, and how many nodes it has.
 #[derive(Clone, Copy)]

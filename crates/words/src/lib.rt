@@ -14,8 +14,10 @@ ghost use Rattle.texts.specs.Counts.{occurrences};
 use kinds::{Kind, Shape};
 use layout::MOST_NAME_BYTES;
 
-// The bytes before a line's name: `var` and a space.
-const NAME_START: usize = 4;
+// The bytes before a line's name, `var` and a space, and before the goal's expression, `goal` and a space.
+pub const NAME_START: usize = 4;
+
+pub const GOAL_START: usize = 5;
 
 #[tactic(auto, unfolding(texts::specs::Places::separates))]
 fn separates(c: u8) -> bool
