@@ -16,7 +16,7 @@ use kinds::{Kind, Record, Shape};
 use numbers::NodeNumber;
 
 // Where an expression's words end, and the number of the node behind its own.
-#[derive(Clone, Copy)]
+#[derive(Clone, Copy, Debug, PartialEq, Eq)]
 pub struct Built {
     pub end: usize,
     pub next: usize,

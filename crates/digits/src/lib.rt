@@ -13,7 +13,7 @@ use layout::MOST_VARIABLES;
 use replies::{BINARY_DIGITS, HEX_DIGITS};
 
 // Where a variable's digits start, and how many they are.
-#[derive(Clone, Copy)]
+#[derive(Clone, Copy, Debug, PartialEq, Eq)]
 pub struct Span {
     pub start: usize,
     pub size: usize,

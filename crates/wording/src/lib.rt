@@ -2,7 +2,7 @@
 #![tactic(auto)]
 
 // Whether the script asks for a failing case.
-#[derive(Clone, Copy)]
+#[derive(Clone, Copy, Debug, PartialEq, Eq)]
 pub struct ScriptForm {
     pub models: bool,
 }
