@@ -177,11 +177,12 @@ fn read_all<R: Read>(from: &mut R, room: &mut [u8]) -> Result<usize, Error>
     ensures prefix_len { IfOk result (λ n. IsPrefixLen n room.new) }
     ensures bytes { IfOk result (λ n. HasRead (R.remaining from.old) (take n room.new) (length room.new)) }
 {
-    let (size, reason) = read_full(from, room);
+    let (size, filled) = read_full(from, room);
     if has_ended(from, size, room.len())? {
         return Ok(size);
     }
-    reason?;
+    // Where no read failed, one told of an end before the end: the system has no reason for that.
+    filled?;
     Err(Error::from_raw_os_error(NO_REASON))
 }
 
@@ -515,7 +516,7 @@ fn judge_reply(rt: &HostRuntime, sheet: &[u8], arguments: usize) {
     }
 }
 
-// Takes the sheet that is replied to.
+// Takes the sheet that is replied to. Unlike `take_sheet`, it calls a sheet so in messages, and not by its file's name.
 fn take_replied<R: Read>(
     rt: &HostRuntime,
     from: &mut R,
