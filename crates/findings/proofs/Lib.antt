@@ -1,2 +1,3 @@
 pub mod FindingLaws
+pub mod KeptLaws
 pub mod SoundFindings
