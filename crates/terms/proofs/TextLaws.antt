@@ -31,7 +31,7 @@ use Rattle.room.proofs.RoomLaws.{chain}
 use Rattle.pieces.specs.Sizes.{longest_word}
 use Rattle.pieces.proofs.WordLaws.{word-short}
 use Rattle.pieces.proofs.PieceLaws.{symbol-short, literal-length}
-use Rattle.terms.specs.Texts.{AcceptedNode, NodeRecord, text_at, one_open, two_open, three_open, call_bytes, leaf_bytes, bytes_per_node, longest_text}
+use Rattle.terms.specs.Texts.{AcceptedNode, text_at, one_open, two_open, three_open, call_bytes, leaf_bytes, bytes_per_node, longest_text}
 
 -- ---- lengths
 length-1 : (w a : List ℕ) → length (call1 w a) ≡ call_bytes 1 + length w + length a
@@ -142,33 +142,33 @@ module _ {s : List ℕ} where
       omega (arith, short-below (suc n) n (omega arith) ok, c.most, ok.below)
 
 -- ---- a node by its record r and its shape h
-pub known : {s : List ℕ} {n : ℕ} {r : Record} → refusal_of most_nodes s ≡ none → n < node_count s → r ≡ table s n → NodeRecord s n r
-known a l e = record { ready = record { accepted = a; below = l }; fields = e }
+module _ (s : List ℕ) (n : ℕ) (e : refusal_of most_nodes s ≡ none) (l : n < node_count s) {r : Record} (er : r ≡ table s n) {h : Shape} (eh : h ≡ (row r.kind).shape) where
+  ok : AcceptedNode s n
+  ok = record { accepted = e; below = l }
 
-module _ {s : List ℕ} {n : ℕ} {r : Record} (node : NodeRecord s n r) {h : Shape} (eh : h ≡ (row r.kind).shape) where
   as-shape : h ≡ shape_at (table s n)
-  as-shape = eh ∙ ap shape_at node.fields
+  as-shape = eh ∙ ap shape_at er
 
   pub node-text : {g : Shape} → h ≡ g → text_at s n ≡ by_shape g (word_of r.kind) r (text_at s)
-  node-text eg = rw (sym eg ∙ as-shape, node.fields) (from-record node.ready)
+  node-text eg = rw (sym eg ∙ as-shape, er) (from-record ok)
 
   pub operands-before : {g : Shape} → h ≡ g → Before n (operands_of g r)
-  operands-before eg = rw (sym eg ∙ as-shape, node.fields) (lower (placed node.ready))
+  operands-before eg = rw (sym eg ∙ as-shape, er) (lower (placed ok))
 
   -- a constant's text, by the record's 16 bits
   pub valued-text : r.value < word_limit → h ≡ Valued → hex_text r.value ≡ text_at s n
   unfolding literal
-  valued-text l eg = sym (node-text eg ∙ ap hex_text (enc16-dec16 l))
+  valued-text w eg = sym (node-text eg ∙ ap hex_text (enc16-dec16 w))
 
   -- a variable's number
   pub named_small : h ≡ Named → r.a < most_variables
   named_small eg =
-      let l : (table s n).a < variable_count s = subst (λ (g : Shape). VariableBelow g (table s n) (variable_count s)) (sym as-shape ∙ eg) (placed node.ready).listed in
-      omega (arith, ap (λ (x : Record). x.a) node.fields, (accepted-counted s node.ready.accepted).few)
+      let listed : (table s n).a < variable_count s = subst (λ (g : Shape). VariableBelow g (table s n) (variable_count s)) (sym as-shape ∙ eg) (placed ok).listed in
+      omega (arith, ap (λ (x : Record). x.a) er, (accepted-counted s e).few)
 
   -- nodes with operands
   lower-below : {a : ℕ} → a < n → a < node_count s
-  lower-below l = omega (arith, node.ready.below)
+  lower-below b = omega (arith, b, l)
 
   pub one-node : {t : Sort} → h ≡ One t → OneNode s n r
   one-node eg =
@@ -178,7 +178,7 @@ module _ {s : List ℕ} {n : ℕ} {r : Record} (node : NodeRecord s n r) {h : Sh
         before_end = open-1 (word_of r.kind) (text_at s r.a) ∙ sym size;
         closed = closed-1 (word_of r.kind) (text_at s r.a) ∙ sym (node-text eg);
         size = size;
-        short = text-short node.ready;
+        short = text-short ok;
         first = lower-below b.0;
         low = b.0;
       }
@@ -191,7 +191,7 @@ module _ {s : List ℕ} {n : ℕ} {r : Record} (node : NodeRecord s n r) {h : Sh
         before_end = open-2 (word_of r.kind) (text_at s r.a) (text_at s r.b) ∙ sym size;
         closed = closed-2 (word_of r.kind) (text_at s r.a) (text_at s r.b) ∙ sym (node-text eg);
         size = size;
-        short = text-short node.ready;
+        short = text-short ok;
         first = lower-below b.1.0;
         second = lower-below b.0;
         low = b.1.0;
@@ -206,7 +206,7 @@ module _ {s : List ℕ} {n : ℕ} {r : Record} (node : NodeRecord s n r) {h : Sh
         before_end = open-3 (word_of r.kind) (text_at s r.a) (text_at s r.b) (text_at s r.c) ∙ sym size;
         closed = closed-3 (word_of r.kind) (text_at s r.a) (text_at s r.b) (text_at s r.c) ∙ sym (node-text eg);
         size = size;
-        short = text-short node.ready;
+        short = text-short ok;
         first = lower-below b.1.1.0;
         second = lower-below b.1.0;
         third = lower-below b.0;
