@@ -1,5 +1,4 @@
 // The expressions of plain texts, written into lent room: the words of a node and of its operands, and how long they are.
-// `sheet.bytes()` stands alone where a proof needs that the sheet is accepted, which that method's clause says.
 #![tactic(auto)]
 
 ghost use Rattle.std.specs.Prelude.{◌≡◌, ◌++◌, ◌+◌, ◌≤◌, ◌<◌, length};
@@ -37,7 +36,6 @@ fn phrase(sheet: &Accepted, node: NodeNumber, room: &mut [u8]) -> usize
     requires { (node.0 < node_count sheet.now) × (length (phrase_at sheet.now node.0) ≤ length room.old) }
     ensures { Wrote (phrase_at sheet.now node.0) room.old room.new 0 result }
 {
-    sheet.bytes();
     let fields = sheet.record(node);
     let kind = fields.kind;
     match kinds::shape_of(kind) {
@@ -96,7 +94,6 @@ fn own_len(sheet: &Accepted, node: NodeNumber) -> usize
     requires { node.0 < node_count sheet.now }
     ensures { result ≡ length (word_at sheet.now node.0) }
 {
-    sheet.bytes();
     let fields = sheet.record(node);
     let kind = fields.kind;
     match kinds::shape_of(kind) {
@@ -111,6 +108,7 @@ pub fn words_len(sheet: &Accepted, count: usize) -> usize
     requires { count ≤ node_count sheet.now }
     ensures { result ≡ words_bytes sheet.now count }
 {
+    // For its clause `accepted` alone: so the count fits 16 bits.
     sheet.bytes();
     let mut size = 0;
     for i in 0..count as u16 {

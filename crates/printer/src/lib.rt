@@ -1,5 +1,4 @@
 // The plain text of a sheet's rule, written into lent room.
-// `sheet.bytes()` stands alone where a proof needs that the sheet is accepted, which that method's clause says.
 #![tactic(auto)]
 
 ghost use Rattle.std.specs.Prelude.{◌≡◌, ◌++◌, ◌+◌, ◌≤◌, ◌<◌, length};
@@ -79,23 +78,14 @@ fn variable_line(sheet: &Accepted, n: VariableNumber, room: &mut [u8], at: usize
     line_end(room, next, low, high)
 }
 
-// V, as what numbers the variables.
-#[tactic(auto, using(crate::proofs::LineLaws::few_variables))]
-fn variables(sheet: &Accepted) -> u16
-    ensures same { result ≡ variable_count sheet.now }
-    ensures accepted { refusal_of most_nodes sheet.now ≡ none }
-{
-    sheet.bytes();
-    sheet.variable_count() as u16
-}
-
 // The lines of all variables.
+#[tactic(auto, using(crate::proofs::LineLaws::few_variables))]
 fn variable_lines(sheet: &Accepted, room: &mut [u8]) -> usize
     requires { length (joined_below (line_at sheet.now) (variable_count sheet.now)) ≤ length room.old }
     ensures { Wrote (joined_below (line_at sheet.now) (variable_count sheet.now)) room.old room.new 0 result }
 {
     let mut next = 0;
-    for variable in 0..variables(sheet) {
+    for variable in 0..sheet.variable_count() as u16 {
         next = variable_line(sheet, VariableNumber(variable), room, next);
     }
     next
@@ -115,11 +105,12 @@ fn line_len(sheet: &Accepted, n: VariableNumber) -> usize
 }
 
 // The length of the lines of all variables.
+#[tactic(auto, using(crate::proofs::LineLaws::few_variables))]
 fn lines_len(sheet: &Accepted) -> usize
     ensures { result ≡ length (joined_below (line_at sheet.now) (variable_count sheet.now)) }
 {
     let mut size = 0;
-    for variable in 0..variables(sheet) {
+    for variable in 0..sheet.variable_count() as u16 {
         size += line_len(sheet, VariableNumber(variable));
     }
     size
@@ -130,9 +121,9 @@ fn goal_line(sheet: &Accepted, room: &mut [u8], at: usize) -> usize
     requires { at + length (goal_text sheet.now) ≤ length room.old }
     ensures { Wrote (goal_text sheet.now) room.old room.new at result }
 {
-    sheet.bytes();
+    let goal = sheet.goal();
     let p = room::put(room, at, &GOAL);
-    let q = expressions::operand(sheet, sheet.goal(), room, p);
+    let q = expressions::operand(sheet, goal, room, p);
     room::put(room, q, &LINE_FEED)
 }
 
@@ -140,17 +131,18 @@ fn goal_line(sheet: &Accepted, room: &mut [u8], at: usize) -> usize
 fn text_len(sheet: &Accepted) -> usize
     ensures { result ≡ length (text_of (rule_in sheet.now)) }
 {
-    sheet.bytes();
     let lines = lines_len(sheet);
     let words = expressions::words_len(sheet, sheet.node_count());
     lines + GOAL.len() + BLANK.len() + words
 }
 
 // Refusal 19: the lowest variable whose name is a word.
+#[tactic(auto, using(crate::proofs::LineLaws::few_variables))]
 fn read_names(sheet: &Accepted) -> Result<(), Refused>
-    ensures { said_of result ≡ first (word_refusal sheet.now) 0 (variable_count sheet.now) }
+    ensures said { said_of result ≡ first (word_refusal sheet.now) 0 (variable_count sheet.now) }
+    ensures accepted { refusal_of most_nodes sheet.now ≡ none }
 {
-    let count = variables(sheet);
+    let count = sheet.variable_count() as u16;
     for checked in 0..count {
         if !words::is_plain_name(sheet.name(VariableNumber(checked))) {
             return Err(Refused {
@@ -166,7 +158,6 @@ fn read_names(sheet: &Accepted) -> Result<(), Refused>
 fn print_accepted(sheet: &Accepted, room: &mut [u8]) -> Result<usize, Refused>
     ensures { Prints most_nodes sheet.now room.old result room.new }
 {
-    sheet.bytes();
     read_names(sheet)?;
     let size = text_len(sheet);
     if room.len() < size {

@@ -1,4 +1,5 @@
 // A sheet that is accepted, as a type: who has one needs no more than the numbers of its variables and nodes to read it.
+// Each method says so again in its contract, for the caller's proof.
 
 ghost use Rattle.std.specs.Prelude.{◌≡◌, ◌<◌, List, ℕ};
 ghost use Rattle.std.proofs.Math.Option.{none};
@@ -46,7 +47,8 @@ impl Accepted<'_> {
     // V, the number of variables.
     #[tactic(auto, using(crate::proofs::ReadLaws::accepted_block))]
     pub fn variable_count(&self) -> usize
-        ensures { result ≡ variable_count self.now }
+        ensures count { result ≡ variable_count self.now }
+        ensures accepted { refusal_of most_nodes self.now ≡ none }
     {
         header::variable_count(self.bytes)
     }
@@ -54,7 +56,8 @@ impl Accepted<'_> {
     // N, the number of nodes.
     #[tactic(auto, using(crate::proofs::ReadLaws::accepted_block))]
     pub fn node_count(&self) -> usize
-        ensures { result ≡ node_count self.now }
+        ensures count { result ≡ node_count self.now }
+        ensures accepted { refusal_of most_nodes self.now ≡ none }
     {
         header::node_count(self.bytes)
     }
@@ -62,7 +65,9 @@ impl Accepted<'_> {
     // The goal, the last node.
     #[tactic(auto, using(crate::proofs::ReadLaws::accepted_block, crate::proofs::ReadLaws::some_nodes))]
     pub fn goal(&self) -> NodeNumber
-        ensures { result.0 ≡ goal_at self.now }
+        ensures node { result.0 ≡ goal_at self.now }
+        ensures below { result.0 < node_count self.now }
+        ensures accepted { refusal_of most_nodes self.now ≡ none }
     {
         NodeNumber((header::node_count(self.bytes) - 1) as u16)
     }
@@ -70,7 +75,8 @@ impl Accepted<'_> {
     // A variable's name.
     pub fn name(&self, n: VariableNumber) -> &[u8]
         requires { n.0 < variable_count self.now }
-        ensures { result.now ≡ (variable_at self.now n.0).name }
+        ensures name { result.now ≡ (variable_at self.now n.0).name }
+        ensures accepted { refusal_of most_nodes self.now ≡ none }
     {
         records::name_in(self.bytes, records::variable_place(n))
     }
@@ -78,7 +84,8 @@ impl Accepted<'_> {
     // A node's record.
     pub fn record(&self, n: NodeNumber) -> Record
         requires { n.0 < node_count self.now }
-        ensures { result ≡ table self.now n.0 }
+        ensures record { result ≡ table self.now n.0 }
+        ensures accepted { refusal_of most_nodes self.now ≡ none }
     {
         records::record_at(self.bytes, n)
     }

@@ -2,6 +2,7 @@
 use Prim.Native.Nat.{ℕ, zero, suc, ◌+◌, ◌*◌, ◌≤◌, ◌<◌}
 use mathlib.Core.Path.{◌≡◌, sym, ap, subst, ◌∙◌}
 use mathlib.Core.List.{List, [], ◌++◌, append_assoc}
+use mathlib.Core.Option.{none}
 use native.Mathlib.Omega.{arith}
 use lib.ListN.{length, length-append}
 use Rattle.lists.specs.Ascii.{ascii}
@@ -13,14 +14,14 @@ use Rattle.kinds.specs.declared.Record.{Record}
 use Rattle.kinds.specs.declared.Shape.{Shape}
 use Rattle.kinds.specs.declared.Shape.TheVariants.{Wrong, Bare, Valued, Named, One, Two, Three}
 use Rattle.kinds.specs.Kinds.{row}
-use Rattle.layout.specs.Limits.{most_variables, node_bytes, node_place}
+use Rattle.layout.specs.Limits.{most_variables, most_nodes}
 use Rattle.layout.specs.Starts.{shape_at, operands_of, start_by, start_at, Ordered, VariableBelow}
 use Rattle.layout.specs.Parts.{node_count, variable_count, table}
 use Rattle.layout.specs.LaidOut.{Placed}
 use Rattle.layout.specs.Fold.{found_by}
 use Rattle.layout.proofs.StartLaws.{Before, lower, start_is}
 use Rattle.layout.proofs.FoldLaws.{node-is}
-use Rattle.header.proofs.HeaderLaws.{node-inside}
+use Rattle.reading.specs.Cascade.{refusal_of}
 use Rattle.reading.proofs.RuleLaws.{accepted-counted, accepted-sound}
 use Rattle.wording.specs.Words.{word_of}
 use Rattle.wording.specs.Text.{call1, call2, call3, text_by, text_step}
@@ -30,7 +31,7 @@ use Rattle.room.proofs.RoomLaws.{chain}
 use Rattle.pieces.specs.Sizes.{longest_word}
 use Rattle.pieces.proofs.WordLaws.{word-short}
 use Rattle.pieces.proofs.PieceLaws.{symbol-short, literal-length}
-use Rattle.terms.specs.Texts.{AcceptedNode, NodeRecord, text_at, one_open, two_open, three_open, call_bytes, leaf_bytes, bytes_per_node, longest_text}
+use Rattle.terms.specs.Texts.{AcceptedNode, text_at, one_open, two_open, three_open, call_bytes, leaf_bytes, bytes_per_node, longest_text}
 
 -- ---- lengths
 length-1 : (w a : List ℕ) → length (call1 w a) ≡ call_bytes 1 + length w + length a
@@ -121,9 +122,6 @@ module _ {s : List ℕ} {n : ℕ} (ok : AcceptedNode s n) where
   placed : Placed (table s) (variable_count s) n
   placed = (accepted-sound s ok.accepted).placed n ok.below
 
-  pub inside : node_place n + node_bytes ≤ length s
-  inside = node-inside (accepted-counted s ok.accepted) ok.below
-
   from-record : text_at s n ≡ by_shape (shape_at (table s n)) (word_of (table s n).kind) (table s n) (text_at s)
   unfolding text_at
   from-record = node-is (text_step literal symbol_text) [] (table s) n (lower placed)
@@ -144,30 +142,33 @@ module _ {s : List ℕ} where
       omega (arith, short-below (suc n) n (omega arith) ok, c.most, ok.below)
 
 -- ---- a node by its record r and its shape h
-module _ {s : List ℕ} {n : ℕ} {r : Record} (known : NodeRecord s n r) {h : Shape} (eh : h ≡ (row r.kind).shape) where
+module _ (s : List ℕ) (n : ℕ) (e : refusal_of most_nodes s ≡ none) (l : n < node_count s) {r : Record} (er : r ≡ table s n) {h : Shape} (eh : h ≡ (row r.kind).shape) where
+  ok : AcceptedNode s n
+  ok = record { accepted = e; below = l }
+
   as-shape : h ≡ shape_at (table s n)
-  as-shape = eh ∙ ap shape_at known.fields
+  as-shape = eh ∙ ap shape_at er
 
   pub node-text : {g : Shape} → h ≡ g → text_at s n ≡ by_shape g (word_of r.kind) r (text_at s)
-  node-text eg = rw (sym eg ∙ as-shape, known.fields) (from-record known.ready)
+  node-text eg = rw (sym eg ∙ as-shape, er) (from-record ok)
 
   pub operands-before : {g : Shape} → h ≡ g → Before n (operands_of g r)
-  operands-before eg = rw (sym eg ∙ as-shape, known.fields) (lower (placed known.ready))
+  operands-before eg = rw (sym eg ∙ as-shape, er) (lower (placed ok))
 
   -- a constant's text, by the record's 16 bits
   pub valued-text : r.value < word_limit → h ≡ Valued → hex_text r.value ≡ text_at s n
   unfolding literal
-  valued-text l eg = sym (node-text eg ∙ ap hex_text (enc16-dec16 l))
+  valued-text w eg = sym (node-text eg ∙ ap hex_text (enc16-dec16 w))
 
   -- a variable's number
   pub named_small : h ≡ Named → r.a < most_variables
   named_small eg =
-      let l : (table s n).a < variable_count s = subst (λ (g : Shape). VariableBelow g (table s n) (variable_count s)) (sym as-shape ∙ eg) (placed known.ready).listed in
-      omega (arith, ap (λ (x : Record). x.a) known.fields, (accepted-counted s known.ready.accepted).few)
+      let listed : (table s n).a < variable_count s = subst (λ (g : Shape). VariableBelow g (table s n) (variable_count s)) (sym as-shape ∙ eg) (placed ok).listed in
+      omega (arith, ap (λ (x : Record). x.a) er, (accepted-counted s e).few)
 
   -- nodes with operands
   lower-below : {a : ℕ} → a < n → a < node_count s
-  lower-below l = omega (arith, known.ready.below)
+  lower-below b = omega (arith, b, l)
 
   pub one-node : {t : Sort} → h ≡ One t → OneNode s n r
   one-node eg =
@@ -177,7 +178,7 @@ module _ {s : List ℕ} {n : ℕ} {r : Record} (known : NodeRecord s n r) {h : S
         before_end = open-1 (word_of r.kind) (text_at s r.a) ∙ sym size;
         closed = closed-1 (word_of r.kind) (text_at s r.a) ∙ sym (node-text eg);
         size = size;
-        short = text-short known.ready;
+        short = text-short ok;
         first = lower-below b.0;
         low = b.0;
       }
@@ -190,7 +191,7 @@ module _ {s : List ℕ} {n : ℕ} {r : Record} (known : NodeRecord s n r) {h : S
         before_end = open-2 (word_of r.kind) (text_at s r.a) (text_at s r.b) ∙ sym size;
         closed = closed-2 (word_of r.kind) (text_at s r.a) (text_at s r.b) ∙ sym (node-text eg);
         size = size;
-        short = text-short known.ready;
+        short = text-short ok;
         first = lower-below b.1.0;
         second = lower-below b.0;
         low = b.1.0;
@@ -205,7 +206,7 @@ module _ {s : List ℕ} {n : ℕ} {r : Record} (known : NodeRecord s n r) {h : S
         before_end = open-3 (word_of r.kind) (text_at s r.a) (text_at s r.b) (text_at s r.c) ∙ sym size;
         closed = closed-3 (word_of r.kind) (text_at s r.a) (text_at s r.b) (text_at s r.c) ∙ sym (node-text eg);
         size = size;
-        short = text-short known.ready;
+        short = text-short ok;
         first = lower-below b.1.1.0;
         second = lower-below b.1.0;
         third = lower-below b.0;

@@ -17,11 +17,6 @@ pub record AcceptedNode (s : List ℕ) (n : ℕ) : Type 0 where
   pub accepted : refusal_of most_nodes s ≡ none
   pub below : n < node_count s
 
--- and r is its record
-pub record NodeRecord (s : List ℕ) (n : ℕ) (r : Record) : Type 0 where
-  pub ready : AcceptedNode s n
-  pub fields : r ≡ table s n
-
 -- node n's text
 unfoldable pub text_at : List ℕ → ℕ → List ℕ
 text_at s n = of_node (text_step literal symbol_text) [] (table s) n

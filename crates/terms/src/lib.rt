@@ -5,7 +5,7 @@ ghost use Rattle.std.specs.Prelude.{◌≡◌, ◌++◌, ◌+◌, ◌≤◌, ◌
 ghost use Rattle.lists.specs.Ascii.{ascii};
 ghost use Rattle.layout.specs.Parts.{node_count};
 ghost use Rattle.room.specs.Room.{Wrote};
-ghost use Rattle.terms.specs.Texts.{NodeRecord, text_at, one_open, two_open, three_open};
+ghost use Rattle.terms.specs.Texts.{text_at, one_open, two_open, three_open};
 
 use kinds::{Record, Shape};
 use numbers::{NodeNumber, VariableNumber};
@@ -19,22 +19,13 @@ const TWO_BYTES: usize = ONE_BYTES + BLANK.len();
 
 const THREE_BYTES: usize = TWO_BYTES + BLANK.len();
 
-// A node's record, and that the node is one of an accepted sheet, by which its text's length is bounded.
-#[tactic(auto, using(crate::proofs::TextLaws::inside))]
-fn node_record(sheet: &Accepted, node: NodeNumber) -> Record
-    requires { node.0 < node_count sheet.now }
-    ensures { NodeRecord sheet.now node.0 result }
-{
-    records::record_at(sheet.bytes(), node)
-}
-
 // The text of a node, to the front of the room; its bytes.
 #[cycle(one_operand_term_three_two)]
 fn term(sheet: &Accepted, node: NodeNumber, room: &mut [u8]) -> usize
     requires { (node.0 < node_count sheet.now) × (length (text_at sheet.now node.0) ≤ length room.old) }
     ensures { Wrote (text_at sheet.now node.0) room.old room.new 0 result }
 {
-    let fields = node_record(sheet, node);
+    let fields = sheet.record(node);
     let kind = fields.kind;
     match kinds::shape_of(kind) {
         Shape::Wrong => 0,
@@ -101,7 +92,7 @@ pub fn term_len(sheet: &Accepted, node: NodeNumber) -> usize
     requires { node.0 < node_count sheet.now }
     ensures { result ≡ length (text_at sheet.now node.0) }
 {
-    let fields = node_record(sheet, node);
+    let fields = sheet.record(node);
     let kind = fields.kind;
     let size = pieces::word_len(kind);
     match kinds::shape_of(kind) {

@@ -141,7 +141,7 @@ module _ (s : List ℕ) (e : refusal_of most_nodes s ≡ none) where
   goal-length eg = rw eg (simp length-append (omega arith))
 
   -- the goal is a node
-  pub goal-below : {g : ℕ} → g ≡ goal_at s → g < node_count s
+  goal-below : {g : ℕ} → g ≡ goal_at s → g < node_count s
   goal-below eg = omega (arith, (accepted-counted s e).some-node)
 
   -- the first block is there

@@ -2,8 +2,10 @@
 #![tactic(auto)]
 
 ghost use Rattle.std.specs.Prelude.{◌≡◌, ◌+◌, ◌≤◌, length};
+ghost use Rattle.std.proofs.Math.Option.{none};
 ghost use Rattle.layout.specs.Limits.{most_variables, most_nodes};
 ghost use Rattle.layout.specs.Parts.{rule_in};
+ghost use Rattle.reading.specs.Cascade.{refusal_of};
 ghost use Rattle.wording.specs.Form.{form_of};
 ghost use Rattle.wording.specs.Script.{only_with, script};
 ghost use Rattle.lines.specs.Lines.{values_line};
@@ -64,10 +66,9 @@ fn goal_lines(sheet: &Accepted, room: &mut [u8], at: usize) -> usize
     requires { at + length (goal_lines sheet.now) ≤ length room.old }
     ensures { Wrote (goal_lines sheet.now) room.old room.new at result }
 {
-    // Called for what it ensures, that the sheet is accepted: so its goal is a node.
-    sheet.bytes();
+    let goal = sheet.goal();
     let p = room::put(room, at, &GOAL_START);
-    let q = terms::operand(sheet, sheet.goal(), room, p);
+    let q = terms::operand(sheet, goal, room, p);
     room::put(room, q, &GOAL_END)
 }
 
@@ -119,10 +120,9 @@ fn models_len(form: ScriptForm, count: usize) -> usize
 
 // The length of the script.
 fn script_len(sheet: &Accepted, form: ScriptForm) -> usize
-    ensures { result ≡ length (script (form_of form) (rule_in sheet.now)) }
+    ensures size { result ≡ length (script (form_of form) (rule_in sheet.now)) }
+    ensures accepted { refusal_of most_nodes sheet.now ≡ none }
 {
-    // Called for what it ensures, that the sheet is accepted: so its script is short.
-    sheet.bytes();
     let count = sheet.variable_count();
     let goal = terms::term_len(sheet, sheet.goal());
     lines::variables_len(count) + goal + FRAME_BYTES + models_len(form, count)
@@ -132,8 +132,6 @@ fn script_len(sheet: &Accepted, form: ScriptForm) -> usize
 fn write_accepted(sheet: &Accepted, form: ScriptForm, room: &mut [u8]) -> Result<usize, Refused>
     ensures { Writes most_nodes (form_of form) sheet.now room.old result room.new }
 {
-    // Called for what it ensures, that the sheet is accepted.
-    sheet.bytes();
     let size = script_len(sheet, form);
     if room.len() < size {
         return Err(Refused {

@@ -17,7 +17,7 @@ pub overflow_add-size : goal.overflow_add-size
 overflow_add-size c =
     let s = c.args.sheet.now in
     let i = c.loop-variable.variable in
-    omega (arith, line-short s i c.variables-variable-end.ensures.accepted (omega arith), lines-short s c.variables-variable-end.ensures.accepted i (omega arith), (accepted-counted _ c.variables-variable-end.ensures.accepted).few)
+    omega (arith, line-short s i c.variable_count-variable-end.ensures.accepted (omega arith), lines-short s c.variable_count-variable-end.ensures.accepted i (omega arith), (accepted-counted _ c.variable_count-variable-end.ensures.accepted).few)
 
 pub loop-variable-preserved : goal.loop-variable-preserved
 loop-variable-preserved c = omega (arith, length_more (line_at c.args.sheet.now) c.loop-variable.variable)

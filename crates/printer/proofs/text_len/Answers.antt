@@ -10,16 +10,16 @@ use Rattle.printer.proofs.text_len.Goals as goal
 
 pub overflow_add-result : goal.overflow_add-result
 overflow_add-result c =
-    let k = accepted-counted _ c.bytes.ensures.accepted in omega (arith, lines-short _ c.bytes.ensures.accepted (variable_count c.args.sheet.now) (omega arith), words-short _ c.bytes.ensures.accepted c.node_count.result (omega arith), k.few, k.most)
+    let k = accepted-counted _ c.node_count.ensures.accepted in omega (arith, lines-short _ c.node_count.ensures.accepted (variable_count c.args.sheet.now) (omega arith), words-short _ c.node_count.ensures.accepted c.node_count.result (omega arith), k.few, k.most)
 
 pub overflow_add-result-2 : goal.overflow_add-result-2
 overflow_add-result-2 c =
-    let k = accepted-counted _ c.bytes.ensures.accepted in omega (arith, lines-short _ c.bytes.ensures.accepted (variable_count c.args.sheet.now) (omega arith), words-short _ c.bytes.ensures.accepted c.node_count.result (omega arith), k.few, k.most)
+    let k = accepted-counted _ c.node_count.ensures.accepted in omega (arith, lines-short _ c.node_count.ensures.accepted (variable_count c.args.sheet.now) (omega arith), words-short _ c.node_count.ensures.accepted c.node_count.result (omega arith), k.few, k.most)
 
 pub overflow_add-result-3 : goal.overflow_add-result-3
 overflow_add-result-3 c =
-    let k = accepted-counted _ c.bytes.ensures.accepted in omega (arith, lines-short _ c.bytes.ensures.accepted (variable_count c.args.sheet.now) (omega arith), words-short _ c.bytes.ensures.accepted c.node_count.result (omega arith), k.few, k.most)
+    let k = accepted-counted _ c.node_count.ensures.accepted in omega (arith, lines-short _ c.node_count.ensures.accepted (variable_count c.args.sheet.now) (omega arith), words-short _ c.node_count.ensures.accepted c.node_count.result (omega arith), k.few, k.most)
 
 pub returns : goal.returns
 returns c =
-    omega (arith, text-length _ c.bytes.ensures.accepted refl c.node_count.ensures)
+    omega (arith, text-length _ c.node_count.ensures.accepted refl c.node_count.ensures.count)
