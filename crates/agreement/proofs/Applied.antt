@@ -12,8 +12,7 @@ use denote.Ref.{Bor}
 use lib.Dec.{lit<, lit≤}
 use lib.IntN.{ℤ, pos, negsuc}
 use lib.ListN.{length, set, take, drop}
-use Rattle.std.specs.Prelude.{Result, Ok, Err}
-use Rattle.refusals.specs.declared.Refused.{Refused}
+use Rattle.std.specs.Prelude.{Ok}
 use Rattle.lists.specs.Ascii.{ascii}
 use Rattle.lists.specs.Places.{all_below}
 use Rattle.lists.specs.Course.{below, course}

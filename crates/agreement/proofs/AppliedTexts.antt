@@ -33,7 +33,6 @@ use Rattle.layout.specs.Goal.{tree_at}
 use Rattle.layout.specs.Parts.{rule_in}
 use Rattle.layout.specs.Sheet.{sheet_with}
 use Rattle.layout.specs.Fold.{of_tree, of_node}
-use Rattle.refusals.specs.declared.Refusal.{Refusal}
 use Rattle.refusals.specs.Rows.{Answered}
 use Rattle.blocks.specs.Early.{length_right, early}
 use Rattle.header.specs.Header.{zeros, counts_right, tail_clear, outside_clear, header}

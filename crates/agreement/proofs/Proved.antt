@@ -11,8 +11,7 @@ use native.Mathlib.Decide.{dec_lt, dec_le}
 use native.Mathlib.Omega.{arith}
 use lib.IntN.{ℤ}
 use lib.ListN.{length, take, length-map}
-use Rattle.std.specs.Prelude.{Result, Ok, Err}
-use Rattle.refusals.specs.declared.Refused.{Refused}
+use Rattle.std.specs.Prelude.{Ok}
 use Rattle.lists.specs.Places.{NoRepeats}
 use Rattle.lists.proofs.PartLaws.{empty-where}
 use Rattle.numbers.proofs.Bytes16.{narrow_within}
@@ -41,7 +40,7 @@ use Rattle.reading.proofs.NameLaws.{given-name}
 use Rattle.reading.proofs.RuleLaws.{accepted-means, rule-some, rule-exactly, rule-to-sheet, rule-allowed, sheet-to-rule}
 use Rattle.reading.proofs.Change.{changed-byte}
 use Rattle.odometer.specs.Limit.{most_cases, case_count}
-use Rattle.cases.specs.declared.Verdict.TheVariants.{Holds, Fails}
+use Rattle.cases.specs.declared.Verdict.TheVariants.{Fails}
 use Rattle.cases.specs.Checks.{try_refusal, check_refusal}
 use Rattle.cases.proofs.Exact.{tally-exactly, check-exactly}
 use Rattle.cases.proofs.Agreement.{fails-exactly, holds-exactly, room-fails}

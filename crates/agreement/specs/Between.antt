@@ -1,7 +1,7 @@
 -- Between crates: of each public function whose `ensures` is no mere equation, no second answer and no second room fits the predicate that it names.
 -- The calls themselves have this in `Statements`: `OneAnswer`.
 use Rattle.refusals.specs.declared.Refused.{Refused}
-use Rattle.std.specs.Prelude.{ℕ, ◌≡◌, Bool, List, ℤ, Result, Ok, Err}
+use Rattle.std.specs.Prelude.{ℕ, ◌≡◌, Bool, List, ℤ, Result}
 use Rattle.std.proofs.Math.Option.{Option}
 use Rattle.std.specs.Borrow.{Bor}
 use Rattle.lists.specs.Part.{PartAt, SamePart}

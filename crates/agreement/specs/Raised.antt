@@ -1,7 +1,7 @@
 -- The limit of nodes raised (document 02, item 3): which answers stay, over any two limits, the old one at most the new one. Proved in `proofs/Raised` and
 -- `proofs/Long`. What reads the limit has it as its first argument; the calls have `most_nodes` there. `block` reads none.
 use Rattle.refusals.specs.declared.Refused.{Refused}
-use Rattle.std.specs.Prelude.{ℕ, ◌≤◌, ◌<◌, ◌≡◌, Bool, ◌↔◌, ◌⊎◌, List, ℤ, length, Result, Ok, Err}
+use Rattle.std.specs.Prelude.{ℕ, ◌≤◌, ◌<◌, ◌≡◌, Bool, ◌↔◌, ◌⊎◌, List, ℤ, length, Result}
 use Rattle.std.proofs.Math.Option.{some}
 use Rattle.std.specs.Borrow.{Bor}
 use Rattle.layout.specs.Limits.{sheet_bytes}

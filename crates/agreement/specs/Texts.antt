@@ -2,7 +2,6 @@
 use Rattle.refusals.specs.declared.Refused.{Refused}
 use Rattle.std.specs.Prelude.{ℕ, ◌≤◌, ◌<◌, ◌≡◌, ◌↔◌, ◌⊎◌, List, length, take, drop, Result, Ok, Err}
 use Rattle.std.proofs.Math.Option.{some}
-use Rattle.refusals.specs.declared.Refusal.{Refusal}
 use Rattle.refusals.specs.Rows.{Exactly}
 use Rattle.meaning.specs.Rule.{Rule, variable_of}
 use Rattle.layout.specs.Limits.{most_variables, most_nodes, most_sheet_bytes}

@@ -11,7 +11,6 @@ use Rattle.refusals.specs.declared.Refused.{Refused}
 use Rattle.refusals.specs.Causes.{refusal_of as told_as}
 use Rattle.io.specs.Counts.{IsPrefixLen}
 use Rattle.lists.specs.Ascii.{ascii}
-use Rattle.refusals.specs.declared.Refusal.{Refusal}
 use Rattle.numbers.specs.Bytes.{Bytes}
 use Rattle.meaning.specs.Cases.{Failing}
 use Rattle.layout.specs.Limits.{most_nodes}

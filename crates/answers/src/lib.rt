@@ -16,6 +16,7 @@ use layout::MOST_VARIABLES;
 use trial::Replied;
 use wording::ScriptForm;
 
+// A room is asked to have at least so many bytes, by a clause: an array of just as many would ask more.
 // What is asked of a sheet.
 #[derive(Clone, Copy, Debug, PartialEq, Eq)]
 pub enum Request {

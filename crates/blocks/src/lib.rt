@@ -70,7 +70,8 @@ fn block_right(sheet: &[u8], k: usize) -> bool
     sum == stored
 }
 
-// A block's content as the very part of the sheet; an empty part where the block isn't all there or fails its check.
+// A block's content as the very part of the sheet; an empty part where the block isn't all there or fails its check: document 01 hands
+// that back, so there is no Option (`Block: BlockPart`).
 pub fn block(sheet: &[u8], k: usize) -> &[u8]
     ensures { BlockPart sheet.entry k result }
 {

@@ -15,9 +15,7 @@ use Rattle.meaning.specs.Cases.{first_failure, held, failed}
 use Rattle.meaning.proofs.Counts.{case-count, held-failed}
 use Rattle.layout.specs.Limits.{most_nodes}
 use Rattle.layout.specs.Parts.{rule_in}
-use Rattle.refusals.specs.Said.{said_of}
 use Rattle.cases.specs.declared.Verdict.{Verdict}
-use Rattle.cases.specs.declared.Verdict.TheVariants.{Holds, Fails}
 use Rattle.cases.specs.declared.Tallied.{Tallied}
 use Rattle.cases.specs.Checks.{try_refusal, check_refusal, checked_said, is_some, verdict, Checks}
 use Rattle.cases.specs.Tallies.{unless_refused, tallied_said, held_said, failed_said, Tallies}

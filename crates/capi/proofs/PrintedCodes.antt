@@ -5,9 +5,8 @@ use mathlib.Core.List.{List}
 use mathlib.Core.Option.{none, some}
 use native.Mathlib.Omega.{arith}
 use lib.ListN.{length}
-use Rattle.std.specs.Prelude.{Result, Ok, Err}
+use Rattle.std.specs.Prelude.{Result}
 use Rattle.refusals.specs.declared.Refused.{Refused}
-use Rattle.refusals.specs.Causes.{refusal_of as told_as}
 use Rattle.lists.proofs.FirstLaws.{neither}
 use Rattle.refusals.specs.declared.Refusal.{Refusal}
 use Rattle.refusals.specs.Rows.{NoneApplies}

@@ -21,7 +21,7 @@ use Rattle.trial.specs.Replies.{Replies}
 use Rattle.trial.specs.Digits.{DigitsGiven, DigitsPart, DigitsSpan}
 use Rattle.trial.proofs.Exact.{reply-near}
 use Rattle.trial.proofs.GivenLaws.{given-decided, digits-few, given_inside}
-use Rattle.capi.specs.Codes.{told_of, refusal_code, code_said, tellable, reply_code, ReplyCodes, DigitsCodes}
+use Rattle.capi.specs.Codes.{told_of, code_said, tellable, reply_code, ReplyCodes, DigitsCodes}
 use Rattle.capi.proofs.CodeLaws.{tellable-small, code-tells}
 
 -- ---- reply

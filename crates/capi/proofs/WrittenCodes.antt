@@ -1,6 +1,6 @@
 -- The numbers that calls which write bytes give in C; those of the writer of scripts tell its answers, with models and without. Assumes nothing.
 use Prim.Native.Nat.{ℕ, ◌^◌, ◌≤◌, ◌<◌}
-use mathlib.Core.Path.{◌≡◌, refl, sym, ap, ◌∙◌}
+use mathlib.Core.Path.{◌≡◌, refl, ap, ◌∙◌}
 use mathlib.Core.Bool.{Bool}
 use mathlib.Core.List.{List}
 use mathlib.Core.Option.{Option, none, some}
@@ -21,7 +21,7 @@ use Rattle.room.specs.Written.{written_said, written_verdict}
 use Rattle.writer.specs.Writes.{script_refusal, Writes}
 use Rattle.writer.proofs.ScriptLaws.{script-short}
 use Rattle.writer.proofs.Exact.{script-small}
-use Rattle.capi.specs.Codes.{refusal_code, code_of, code_said, tellable, written_code, ScriptCodes}
+use Rattle.capi.specs.Codes.{code_of, code_said, written_code, ScriptCodes}
 use Rattle.capi.proofs.CodeLaws.{low-place, code-tells}
 
 -- ---- the code of an answer, and that of what decides it, where 48 bits hold the refusal's place

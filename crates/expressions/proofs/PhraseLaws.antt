@@ -28,7 +28,8 @@ use Rattle.room.specs.Room.{Wrote}
 use Rattle.room.proofs.RoomLaws.{wrote_as, chain}
 use Rattle.spelling.proofs.WordLaws.{plain-short}
 use Rattle.spelling.proofs.NumberLaws.{value-short}
-use Rattle.expressions.specs.Phrases.{AcceptedNode, call1, call2, call3, phrase_by, phrase_step, word_by, sheet_names, phrase_at, word_at, words_bytes}
+use Rattle.reading.specs.Accepts.{AcceptedNode}
+use Rattle.expressions.specs.Phrases.{call1, call2, call3, phrase_by, phrase_step, word_by, sheet_names, phrase_at, word_at, words_bytes}
 use Rattle.expressions.proofs.NameLaws.{name-short}
 
 -- ---- lengths

@@ -16,11 +16,6 @@ use Rattle.layout.specs.Parts.{node_count, table, rule_in}
 use Rattle.reading.specs.Cascade.{refusal_of}
 use Rattle.texts.specs.Plain.{name_of}
 
--- the sheet is accepted, and n is one of its nodes
-pub record AcceptedNode (s : List ℕ) (n : ℕ) : Type 0 where
-  pub accepted : refusal_of most_nodes s ≡ none
-  pub below : n < node_count s
-
 -- ---- nodes
 
 -- a node's word, and a blank and a text behind it for each operand

@@ -59,7 +59,7 @@ pub fn operand(sheet: &Accepted, node: NodeNumber, room: &mut [u8], at: usize) -
     next + phrase(sheet, node, &mut room[next..])
 }
 
-// The text of a node with one operand.
+// The text of a node with one operand. One function over a slice of operands takes more stack a level than a call has.
 #[cycle(one_operand_phrase_three_two)]
 fn one(sheet: &Accepted, fields: Record, room: &mut [u8]) -> usize
     requires { (fields.a < node_count sheet.now) × (length (one_text sheet.now fields) ≤ length room.old) }

@@ -1,4 +1,5 @@
 // The header of a sheet: its counts, the bytes outside the records, and refusals 3 and 4.
+// A function asks what the rows before it have shown, one more and another less: so these are clauses, and no type of a sheet.
 #![tactic(auto)]
 
 ghost use Rattle.std.specs.Prelude.{◌≡◌, ◌+◌, ◌*◌, ◌≤◌, ◌<◌, ◌==◌, length};

@@ -6,7 +6,8 @@ ghost use Rattle.kinds.specs.Kinds.{row, kind_of};
 
 use meaning::Sort;
 
-// Document 01's kinds by their bytes, and one for every byte that names none.
+// Document 01's kinds by their bytes, and one for every byte that names none: no Option, since the table has a row for each record
+// (`Kinds: row`).
 #[derive(Clone, Copy, Debug, PartialEq, Eq)]
 pub enum Kind {
     Unknown,
@@ -29,6 +30,7 @@ pub enum Kind {
     If,
 }
 
+// Wrong is the shape of an unknown kind, a row of the table too.
 // Which fields of the record a kind uses: none, the value, a variable's number, or operands of some sorts.
 #[derive(Clone, Copy, Debug, PartialEq, Eq)]
 pub enum Shape {

@@ -1,6 +1,6 @@
 -- What `make` answers, way by way: bytes that are no text, too much for a sheet, a sheet that is refused, a room that is too short, and the sheet. Assumes nothing.
 use Prim.Native.Nat.{ℕ, ◌≤◌, ◌<◌}
-use mathlib.Core.Path.{◌≡◌, refl, sym, ap, subst, ◌∙◌}
+use mathlib.Core.Path.{◌≡◌, refl, ap, subst}
 use mathlib.Core.Bool.{false, ◌&&◌, and-false}
 use mathlib.Core.List.{List, []}
 use mathlib.Core.Option.{none, some}
@@ -10,7 +10,6 @@ use lib.Dec.{leb}
 use lib.ListN.{length, replicate}
 use Rattle.lists.proofs.FirstLaws.{otherwise-none, otherwise-some}
 use Rattle.lists.proofs.TestLaws.{and}
-use Rattle.refusals.specs.declared.Refusal.{Refusal}
 use Rattle.std.specs.Prelude.{Result, Ok, Err}
 use Rattle.refusals.specs.declared.Cause.TheVariants.{Counts as counts, Room, Text as no_text}
 use Rattle.refusals.specs.declared.Refused.{Refused}

@@ -3,7 +3,7 @@ use Prim.Native.Nat.{ℕ}
 use mathlib.Core.Path.{◌≡◌}
 use mathlib.Core.Logic.{⊎_elim}
 use mathlib.Core.List.{List}
-use Rattle.std.specs.Prelude.{Result, Ok, Err}
+use Rattle.std.specs.Prelude.{Result}
 use Rattle.refusals.specs.declared.Refused.{Refused}
 use Rattle.room.proofs.WrittenLaws.{fills-once}
 use Rattle.maker.specs.Makes.{Makes}

@@ -13,7 +13,7 @@ pub struct VariableNumber(pub u16);
 #[derive(Clone, Copy, Debug, PartialEq, Eq, PartialOrd, Ord)]
 pub struct NodeNumber(pub u16);
 
-// The integers from low to high.
+// The integers from low to high. What an operation takes has 16 bits at both ends, and what it gives need not: that is a clause, and no type.
 #[derive(Clone, Copy, Debug, PartialEq, Eq)]
 pub struct Range {
     pub low: i32,

@@ -14,7 +14,7 @@ use layout::MOST_VARIABLES;
 use numbers::VariableNumber;
 use refusals::Refusal;
 
-// A number in decimal, from a place of the room on; the place behind it.
+// A number in decimal, from a place of the room on; the place behind it. No Display: the bytes that are left in the lent room are promised.
 fn put_decimal(room: &mut [u8], at: usize, n: u64) -> usize
     requires { at + length (decimal n) ≤ length room.old }
     ensures { Wrote (decimal n) room.old room.new at result }

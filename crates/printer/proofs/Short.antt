@@ -25,7 +25,8 @@ use Rattle.layout.proofs.FoldLaws.{node-is, goal-found}
 use Rattle.reading.specs.Cascade.{refusal_of}
 use Rattle.reading.proofs.RuleLaws.{accepted-counted, accepted-sound}
 use Rattle.texts.specs.Plain.{text_of}
-use Rattle.expressions.specs.Phrases.{AcceptedNode, word_by, sheet_names, phrase_at, word_at}
+use Rattle.reading.specs.Accepts.{AcceptedNode}
+use Rattle.expressions.specs.Phrases.{word_by, sheet_names, phrase_at, word_at}
 use Rattle.printer.specs.Prints.{longest_text}
 use Rattle.printer.proofs.LineLaws.{lines-short}
 use Rattle.expressions.proofs.PhraseLaws.{length-1, length-2, length-3, by_shape, placed, from-record, word-short}

@@ -20,7 +20,8 @@ use Rattle.reading.specs.Cascade.{refusal_of}
 use Rattle.reading.proofs.RuleLaws.{accepted-counted, accepted-sound}
 use Rattle.texts.specs.Expressions.{expression_of}
 use Rattle.texts.specs.Plain.{name_of, spelled, variable_line, printed, text_of}
-use Rattle.expressions.specs.Phrases.{AcceptedNode, phrase_step, sheet_names, phrase_at, words_bytes}
+use Rattle.reading.specs.Accepts.{AcceptedNode}
+use Rattle.expressions.specs.Phrases.{phrase_step, sheet_names, phrase_at, words_bytes}
 use Rattle.printer.specs.Lines.{line_at, goal_text}
 use Rattle.expressions.proofs.PhraseLaws.{phrase-length, words-none}
 

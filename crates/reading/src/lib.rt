@@ -23,7 +23,8 @@ pub fn read(sheet: &[u8]) -> Result<(), Refused>
     nodes::read_nodes(sheet)
 }
 
-// A variable's name as the very part of the sheet; an empty part where the sheet is refused or there is no such variable.
+// A variable's name as the very part of the sheet; an empty part where the sheet is refused or there is no such variable: document 01
+// hands that back, so there is no Option (`Name: NamePart`).
 #[tactic(auto, using(crate::proofs::ReadLaws::accepted_long))]
 pub fn name(sheet: &[u8], variable: VariableNumber) -> &[u8]
     ensures { NamePart most_nodes sheet.entry variable.0 result }

@@ -25,7 +25,7 @@ fn blank(c: u8) -> bool
     matches!(c, b' ' | b'\n' | b'\t' | b'\r')
 }
 
-// A digit's value, in either case; 16 for any other byte.
+// A digit's value, in either case; 16 for any other byte: no Option, since SMT-LIB's reading has a value for each (`Tokens: digit_value`).
 #[tactic(auto, using(crate::proofs::ByteLaws::digit_laws))]
 pub fn digit(c: u8) -> u8
     ensures { result ≡ digit_value c }

@@ -4,7 +4,7 @@
 ghost use Rattle.std.specs.Prelude.{◌+◌, ◌≤◌, length};
 ghost use Rattle.room.specs.Room.{Wrote};
 
-// A text, from a place of the room on; the place behind it.
+// A text, from a place of the room on; the place behind it. Room and place stay two: a fact beside a `&mut` can be no ghost field.
 pub fn put(room: &mut [u8], at: usize, text: &[u8]) -> usize
     requires { at + length text.now ≤ length room.old }
     ensures { Wrote text.now room.old room.new at result }

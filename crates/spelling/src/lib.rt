@@ -9,7 +9,7 @@ ghost use Rattle.room.specs.Room.{Wrote};
 
 use kinds::Kind;
 
-// A kind's plain word.
+// A kind's plain word. The table has the form of that in pieces, with other words: one match for both would be longer.
 fn word_of(kind: Kind) -> &'static [u8]
     ensures { result.now ≡ (row kind).plain }
 {

@@ -31,7 +31,8 @@ use Rattle.room.proofs.RoomLaws.{chain}
 use Rattle.pieces.specs.Sizes.{longest_word}
 use Rattle.pieces.proofs.WordLaws.{word-short}
 use Rattle.pieces.proofs.PieceLaws.{symbol-short, literal-length}
-use Rattle.terms.specs.Texts.{AcceptedNode, text_at, one_open, two_open, three_open, call_bytes, leaf_bytes, bytes_per_node, longest_text}
+use Rattle.reading.specs.Accepts.{AcceptedNode}
+use Rattle.terms.specs.Texts.{text_at, one_open, two_open, three_open, call_bytes, leaf_bytes, bytes_per_node, longest_text}
 
 -- ---- lengths
 length-1 : (w a : List ℕ) → length (call1 w a) ≡ call_bytes 1 + length w + length a

@@ -12,11 +12,6 @@ use Rattle.wording.specs.Text.{text_step}
 use Rattle.wording.specs.Sixteen.{literal, symbol_text}
 use Rattle.pieces.specs.Sizes.{constant_bytes}
 
--- the sheet is accepted, and n is one of its nodes
-pub record AcceptedNode (s : List ℕ) (n : ℕ) : Type 0 where
-  pub accepted : refusal_of most_nodes s ≡ none
-  pub below : n < node_count s
-
 -- node n's text
 unfoldable pub text_at : List ℕ → ℕ → List ℕ
 text_at s n = of_node (text_step literal symbol_text) [] (table s) n

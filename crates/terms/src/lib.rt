@@ -57,7 +57,7 @@ pub fn operand(sheet: &Accepted, node: NodeNumber, room: &mut [u8], at: usize) -
     next + term(sheet, node, &mut room[next..])
 }
 
-// The text of a node with one operand, but for its end.
+// The text of a node with one operand, but for its end. One function over a slice of operands takes more stack a level than a call has.
 #[cycle(one_operand_term_three_two)]
 fn one(sheet: &Accepted, fields: Record, room: &mut [u8]) -> usize
     requires { (fields.a < node_count sheet.now) × (length (one_open sheet.now fields) ≤ length room.old) }

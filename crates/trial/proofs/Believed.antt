@@ -7,9 +7,7 @@ use mathlib.Core.Option.{none}
 use denote.Ref.{Bor}
 use lib.IntN.{ℤ}
 use lib.ListN.{length, take, drop}
-use Rattle.std.specs.Prelude.{Result, Ok, Err}
-use Rattle.refusals.specs.declared.Refused.{Refused}
-use Rattle.refusals.specs.Causes.{refusal_of as told_as}
+use Rattle.std.specs.Prelude.{Ok}
 use Rattle.lists.proofs.PartLaws.{empty-where}
 use Rattle.numbers.specs.Bytes.{Bytes}
 use Rattle.numbers.specs.Two.{dec}

@@ -11,7 +11,6 @@ use lib.Dec.{eqb}
 use lib.ListN.{length, get_or}
 use Rattle.std.specs.Prelude.{Result, Ok, Err}
 use Rattle.refusals.specs.declared.Refused.{Refused}
-use Rattle.refusals.specs.Causes.{refusal_of as told_as}
 use Rattle.lists.specs.Part.{PartAt}
 use Rattle.layout.specs.Parts.{variable_count}
 use Rattle.reading.specs.Cascade.{refusal_of}
@@ -20,7 +19,6 @@ use Rattle.replies.proofs.SatLaws.{not-both}
 use Rattle.digits.specs.Hashes.{place_behind, digits_place, digits_size}
 use Rattle.digits.specs.Ready.{Based}
 use Rattle.digits.proofs.DigitLaws.{setting-based}
-use Rattle.refusals.specs.declared.Refusal.{Refusal}
 use Rattle.trial.specs.declared.Replied.{Replied}
 use Rattle.trial.specs.declared.Replied.TheVariants.{Unsat, Fails}
 use Rattle.trial.specs.Replies.{Replies}

@@ -1,6 +1,6 @@
 -- The steps of the functions that try a reply's case: what each finds, and what it makes of the whole answer. Assumes nothing.
 use Prim.Native.Nat.{ℕ, ◌≤◌, ◌<◌}
-use mathlib.Core.Path.{◌≡◌, refl, sym, ap, subst, ◌∙◌}
+use mathlib.Core.Path.{◌≡◌, refl, sym, subst, ◌∙◌}
 use mathlib.Core.Bool.{Bool, true, false, not}
 use mathlib.Core.List.{List, ◌++◌}
 use mathlib.Core.Option.{none, some}
@@ -18,7 +18,6 @@ use Rattle.numbers.specs.declared.Range.{Range}
 use Rattle.numbers.specs.Ranges.{Narrow}
 use Rattle.numbers.proofs.Bytes16.{dec16-narrow}
 use Rattle.refusals.specs.declared.Refusal.{Refusal}
-use Rattle.refusals.specs.Said.{said_of}
 use Rattle.refusals.proofs.SaidLaws.{unless-true, unless-false}
 use Rattle.meaning.specs.Rule.{domain_of, value_in}
 use Rattle.meaning.specs.Cases.{holds}

@@ -9,7 +9,6 @@ use lib.ListN.{drop}
 use Rattle.std.specs.Prelude.{Result, Ok, Err}
 use Rattle.refusals.specs.declared.Refused.{Refused}
 use Rattle.refusals.proofs.SaidLaws.{same-refused}
-use Rattle.refusals.specs.Causes.{refusal_of as told_as}
 use Rattle.lists.specs.Part.{SamePart}
 use Rattle.lists.proofs.PartLaws.{where-once}
 use Rattle.layout.specs.Parts.{variable_count}

@@ -68,7 +68,11 @@ fn case_fails(sheet: &Accepted, case: &[i32; MOST_VARIABLES]) -> Result<(), Refu
 }
 
 // Tries the case that a reply spells.
-fn try_case(sheet: &Accepted, reply: &[u8], room: &mut [i16; MOST_VARIABLES]) -> Result<Replied, Refused>
+fn try_case(
+    sheet: &Accepted,
+    reply: &[u8],
+    room: &mut [i16; MOST_VARIABLES],
+) -> Result<Replied, Refused>
     requires { CaseSpelled (variable_count sheet.now) reply.now }
     ensures { RepliesInto most_nodes sheet.now reply.now room.old result room.new }
 {
@@ -82,7 +86,11 @@ fn try_case(sheet: &Accepted, reply: &[u8], room: &mut [i16; MOST_VARIABLES]) ->
 }
 
 // 11: the first byte that fits no reply; else what the reply says.
-fn read_reply(sheet: &Accepted, reply: &[u8], room: &mut [i16; MOST_VARIABLES]) -> Result<Replied, Refused>
+fn read_reply(
+    sheet: &Accepted,
+    reply: &[u8],
+    room: &mut [i16; MOST_VARIABLES],
+) -> Result<Replied, Refused>
     ensures { RepliesInto most_nodes sheet.now reply.now room.old result room.new }
 {
     let bytes = sheet.bytes();
@@ -97,7 +105,11 @@ fn read_reply(sheet: &Accepted, reply: &[u8], room: &mut [i16; MOST_VARIABLES]) 
 }
 
 // What a reply comes to, with a failing case at the front of the room.
-pub fn reply_into(sheet: &[u8], reply: &[u8], room: &mut [i16; MOST_VARIABLES]) -> Result<Replied, Refused>
+pub fn reply_into(
+    sheet: &[u8],
+    reply: &[u8],
+    room: &mut [i16; MOST_VARIABLES],
+) -> Result<Replied, Refused>
     ensures { RepliesInto most_nodes sheet.now reply.now room.old result room.new }
 {
     let sheet = accepted::accept(sheet)?;
@@ -124,7 +136,8 @@ fn listed_span(sheet: &[u8], reply: &[u8], variable: VariableNumber) -> Span
     digits::span_of(reply, i)
 }
 
-// Where a variable's digits start, and how many they are; both 0 where nothing is given.
+// Where a variable's digits start, and how many they are; both 0 where nothing is given, which is an empty part: no Option, since that
+// is what is handed back (`Digits: DigitsSpan`).
 pub fn digits_span(sheet: &[u8], reply: &[u8], variable: VariableNumber) -> Span
     ensures { DigitsSpan most_nodes sheet.now reply.now variable.0 result.start result.size }
 {

@@ -219,7 +219,8 @@ pub fn name_at(text: &[u8], line: usize) -> &[u8]
     &text[start..end]
 }
 
-// The number of the first of so many variables that has this name; so many where none has.
+// The number of the first of so many variables that has this name; so many where none has: no Option, since who asks compares it with
+// the count (`Places: index_in`).
 pub fn variable_named(text: &[u8], count: usize, word: &[u8]) -> usize
     ensures { result ≡ index_in (names_in count text.now) word.now }
 {

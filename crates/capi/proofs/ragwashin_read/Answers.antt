@@ -1,7 +1,6 @@
 -- `ragwashin_read` meets its contract: the code of what `read` answers. Assumes nothing.
 use mathlib.Core.Path.{◌∙◌}
 use native.Mathlib.Omega.{arith}
-use Rattle.std.specs.Prelude.{Ok}
 use Rattle.capi.proofs.CodeLaws.{accepted-code, refused-code, place-small}
 use Rattle.capi.proofs.ragwashin_read.Goals as goal
 

@@ -1,7 +1,6 @@
 -- `ragwashin_tally` meets its contract: the code of what `tally` answers. Assumes nothing.
 use mathlib.Core.Path.{◌∙◌}
 use native.Mathlib.Omega.{arith}
-use Rattle.std.specs.Prelude.{Ok}
 use Rattle.capi.proofs.CaseCodes.{tally-place, tally-refused, tally-counted}
 use Rattle.capi.proofs.ragwashin_tally.Goals as goal
 

@@ -2,7 +2,7 @@
 use mathlib.Core.Path.{sym}
 use native.Mathlib.Omega.{arith}
 use Rattle.reading.proofs.RuleLaws.{accepted-counted}
-use Rattle.expressions.specs.Phrases.{AcceptedNode}
+use Rattle.reading.specs.Accepts.{AcceptedNode}
 use Rattle.expressions.proofs.PhraseLaws.{words-none, words_more, word-short, words-short}
 use Rattle.expressions.proofs.words_len.Goals as goal
 

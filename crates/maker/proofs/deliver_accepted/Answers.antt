@@ -1,5 +1,4 @@
 -- `maker::deliver_accepted` meets its contract: refusal 9 at the sheet's bytes, or the sheet. Assumes nothing.
-use native.Mathlib.Omega.{arith}
 use Rattle.maker.proofs.MakeLaws.{room-short, sheet-written}
 use Rattle.maker.proofs.deliver_accepted.Goals as goal
 

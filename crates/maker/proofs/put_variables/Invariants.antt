@@ -1,5 +1,4 @@
 -- `maker::put_variables` meets its contract: after i turns, what is left of the lines and of their records is that of the variables from i on. Assumes nothing.
-use Prim.Native.Nat.{◌-◌}
 use mathlib.Core.Path.{◌≡◌}
 use lib.ListN.{length}
 use Rattle.maker.proofs.LinesLaws.{Lines}

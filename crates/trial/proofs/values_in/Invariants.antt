@@ -1,5 +1,5 @@
 -- `trial::values_in` meets its contract. Invariant: the answer over all variables is the answer over those from i on. Assumes nothing.
-use Prim.Native.Nat.{◌≤◌, ◌-◌}
+use Prim.Native.Nat.{◌-◌}
 use mathlib.Core.Path.{◌≡◌}
 use lib.ListN.{take}
 use Rattle.lists.specs.First.{first}
