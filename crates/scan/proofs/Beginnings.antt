@@ -20,7 +20,8 @@ use Rattle.records.specs.Variables.{name_right}
 use Rattle.grammar.specs.Words.{reach_from}
 use Rattle.grammar.proofs.ScanLaws.{reach-on, reach-off, reach-end}
 use Rattle.texts.specs.Numbers.{is_number}
-use Rattle.texts.specs.Places.{first_word, behind_line, behind_var, names_in, beginning, begins_any, begins_number, begins_name}
+use Rattle.texts.specs.Places.{first_word, behind_line, behind_var, names_in, beginning, begins_any, begins_number, begins_name, plain_words}
+use Rattle.texts.specs.Plain.{plain_of}
 
 -- ---- bytes that begin a word
 
@@ -94,10 +95,10 @@ module _ {text u : List ℕ} {count line i : ℕ} (w : Comparing text u count li
 
 -- ---- the kinds' words
 
-pub begun-any : (u : List ℕ) (rows : List (Bor (List ℕ) × Kind)) → list_any (λ r. beginning u r.0.now) rows ≡ begins_any (map (λ r. r.0.now) rows) u
+pub begun-any : (u : List ℕ) (ks : List Kind) → list_any (λ k. beginning u (plain_of k)) ks ≡ begins_any (plain_words ks) u
 unfolding begins_any
 begun-any u [] = refl
-begun-any u (r ∷ rows) = ap (λ (b : Bool). beginning u r.0.now || b) (begun-any u rows)
+begun-any u (k ∷ ks) = ap (λ (b : Bool). beginning u (plain_of k) || b) (begun-any u ks)
 
 -- ---- how far a word begins: k bytes do
 

@@ -197,7 +197,9 @@ fn begins_declared(text: &[u8], count: usize, bytes: &[u8]) -> bool
 fn begins_kind(bytes: &[u8]) -> bool
     ensures { result ≡ begins_any (plain_words worded) bytes.now }
 {
-    WORDED.iter().any(|(word, _)| beginning(bytes, word))
+    WORDED
+        .iter()
+        .any(|kind| beginning(bytes, words::word_of(*kind)))
 }
 
 // Whether they begin a word of the goal.

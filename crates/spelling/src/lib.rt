@@ -9,35 +9,11 @@ ghost use Rattle.room.specs.Room.{Wrote};
 
 use kinds::Kind;
 
-// A kind's plain word. The table has the form of that in pieces, with other words: one match for both would be longer.
-fn word_of(kind: Kind) -> &'static [u8]
-    ensures { result.now ≡ (row kind).plain }
-{
-    match kind {
-        Kind::Unknown | Kind::Constant | Kind::Variable => b"",
-        Kind::True => b"true",
-        Kind::False => b"false",
-        Kind::Not => b"not",
-        Kind::And => b"and",
-        Kind::Or => b"or",
-        Kind::Implies => b"implies",
-        Kind::Iff => b"iff",
-        Kind::Equal => b"eq",
-        Kind::Less => b"lt",
-        Kind::AtMost => b"le",
-        Kind::Minus => b"neg",
-        Kind::Sum => b"add",
-        Kind::Difference => b"sub",
-        Kind::Product => b"mul",
-        Kind::If => b"if",
-    }
-}
-
 // The length of a kind's word.
 pub fn word_len(kind: Kind) -> usize
     ensures { result ≡ length (row kind).plain }
 {
-    word_of(kind).len()
+    words::word_of(kind).len()
 }
 
 // A kind's word, from a place of the room on; the place behind it.
@@ -45,7 +21,7 @@ pub fn put_word(room: &mut [u8], at: usize, kind: Kind) -> usize
     requires { at + length (row kind).plain ≤ length room.old }
     ensures { Wrote (row kind).plain room.old room.new at result }
 {
-    room::put(room, at, word_of(kind))
+    room::put(room, at, words::word_of(kind))
 }
 
 // A number's last digit.

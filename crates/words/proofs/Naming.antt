@@ -38,41 +38,29 @@ equal-bytes (b ∷ u) (c ∷ v) = ap (λ (t : Bool). eqb b c && t) (equal-bytes 
 
 -- ---- kinds
 
--- a row of the table: a word, and a kind
-abbrev Row : Type 0
-Row = Bor (List ℕ) × Kind
-
-abbrev AllRight : List Row → Type 0
-AllRight [] = Unit {0}
-AllRight (r ∷ rs) = (plain_of r.1 ≡ r.0.now) × AllRight rs
-
-abbrev kinds_of : List Row → List Kind
-kinds_of [] = []
-kinds_of (r ∷ rs) = r.1 ∷ kinds_of rs
-
-abbrev kind_at : Option Row → Kind
+abbrev kind_at : Option Kind → Kind
 kind_at None = Kind.Unknown
-kind_at (Some r) = r.1
+kind_at (Some k) = k
 
-row-at : (r : Row) (o : Option Row) (k : Kind) (x y : Bool) → y ≡ x → kind_at o ≡ k → kind_at (cond x (Some r) o) ≡ cond y r.1 k
-row-at r o k true y e f = rw e
-row-at r o k false y e f = rw e f
+one-at : (k : Kind) (o : Option Kind) (j : Kind) (x y : Bool) → y ≡ x → kind_at o ≡ j → kind_at (cond x (Some k) o) ≡ cond y k j
+one-at k o j true y e f = rw e
+one-at k o j false y e f = rw e f
 
-in-rows : (rs : List Row) (w : List ℕ) → AllRight rs → kind_at (find (λ r. bytes_eq r.0.now w) rs) ≡ kind_in (kinds_of rs) w
+in-kinds : (ks : List Kind) (w : List ℕ) → kind_at (find (λ k. bytes_eq (plain_of k) w) ks) ≡ kind_in ks w
 unfolding kind_in
-in-rows [] w a = refl
-in-rows (r ∷ rs) w a =
-    row-at r (find (λ r. bytes_eq r.0.now w) rs) (kind_in (kinds_of rs) w) (bytes_eq r.0.now w) (same_bytes (plain_of r.1) w) (ap (λ (u : List ℕ). same_bytes u w) a.0 ∙ equal-bytes r.0.now w) (in-rows rs w a.1)
+in-kinds [] w = refl
+in-kinds (k ∷ ks) w =
+    one-at k (find (λ k. bytes_eq (plain_of k) w) ks) (kind_in ks w) (bytes_eq (plain_of k) w) (same_bytes (plain_of k) w) (equal-bytes (plain_of k) w) (in-kinds ks w)
 
--- what the search finds in the rows rs, which are those of the table
-module _ (w : List ℕ) (rs : List Row) {table : List Row} (t : rs ≡ table) (a : AllRight table) (k : kinds_of table ≡ worded) {o : Option (Bor Row)} (e : option_map (λ b. b.now) o ≡ find (λ r. bytes_eq r.0.now w) rs) where
-  pub kind-found : {b : Bor Row} → o ≡ Some b → b.now.1 ≡ kind_named w
+-- what the search finds among the kinds that have a word
+module _ (w : List ℕ) (ks : List Kind) (t : ks ≡ worded) {o : Option (Bor Kind)} (e : option_map (λ b. b.now) o ≡ find (λ k. bytes_eq (plain_of k) w) ks) where
+  pub kind-found : {b : Bor Kind} → o ≡ Some b → b.now ≡ kind_named w
   unfolding kind_named
-  kind-found f = sym (ap (λ (p : Option (Bor Row)). kind_at (option_map (λ b. b.now) p)) f) ∙ ap kind_at e ∙ in-rows rs w (subst AllRight (sym t) a) ∙ ap (λ (ks : List Kind). kind_in ks w) (ap kinds_of t ∙ k)
+  kind-found f = sym (ap (λ (p : Option (Bor Kind)). kind_at (option_map (λ b. b.now) p)) f) ∙ ap kind_at e ∙ in-kinds ks w ∙ ap (λ (l : List Kind). kind_in l w) t
 
   pub kind-none : o ≡ None → Kind.Unknown ≡ kind_named w
   unfolding kind_named
-  kind-none f = sym (ap (λ (p : Option (Bor Row)). kind_at (option_map (λ b. b.now) p)) f) ∙ ap kind_at e ∙ in-rows rs w (subst AllRight (sym t) a) ∙ ap (λ (ks : List Kind). kind_in ks w) (ap kinds_of t ∙ k)
+  kind-none f = sym (ap (λ (p : Option (Bor Kind)). kind_at (option_map (λ b. b.now) p)) f) ∙ ap kind_at e ∙ in-kinds ks w ∙ ap (λ (l : List Kind). kind_in l w) t
 
 -- ---- plain names
 

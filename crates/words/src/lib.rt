@@ -37,31 +37,55 @@ pub fn word_end(text: &[u8], start: usize) -> usize
     }
 }
 
-// The kinds that have a plain word, each behind its word.
-pub const WORDED: [(&[u8], Kind); 15] = [
-    (b"true", Kind::True),
-    (b"false", Kind::False),
-    (b"not", Kind::Not),
-    (b"and", Kind::And),
-    (b"or", Kind::Or),
-    (b"implies", Kind::Implies),
-    (b"iff", Kind::Iff),
-    (b"eq", Kind::Equal),
-    (b"lt", Kind::Less),
-    (b"le", Kind::AtMost),
-    (b"neg", Kind::Minus),
-    (b"add", Kind::Sum),
-    (b"sub", Kind::Difference),
-    (b"mul", Kind::Product),
-    (b"if", Kind::If),
+// The kinds that have a plain word. No table of texts: the archive has no data with addresses in it, which could be written.
+pub const WORDED: [Kind; 15] = [
+    Kind::True,
+    Kind::False,
+    Kind::Not,
+    Kind::And,
+    Kind::Or,
+    Kind::Implies,
+    Kind::Iff,
+    Kind::Equal,
+    Kind::Less,
+    Kind::AtMost,
+    Kind::Minus,
+    Kind::Sum,
+    Kind::Difference,
+    Kind::Product,
+    Kind::If,
 ];
+
+// A kind's plain word.
+pub fn word_of(kind: Kind) -> &'static [u8]
+    ensures { result.now ≡ (row kind).plain }
+{
+    match kind {
+        Kind::Unknown | Kind::Constant | Kind::Variable => b"",
+        Kind::True => b"true",
+        Kind::False => b"false",
+        Kind::Not => b"not",
+        Kind::And => b"and",
+        Kind::Or => b"or",
+        Kind::Implies => b"implies",
+        Kind::Iff => b"iff",
+        Kind::Equal => b"eq",
+        Kind::Less => b"lt",
+        Kind::AtMost => b"le",
+        Kind::Minus => b"neg",
+        Kind::Sum => b"add",
+        Kind::Difference => b"sub",
+        Kind::Product => b"mul",
+        Kind::If => b"if",
+    }
+}
 
 // The kind whose plain word this is; Unknown where it is none's.
 pub fn kind_named(word: &[u8]) -> Kind
     ensures { result ≡ kind_named word.now }
 {
-    match WORDED.iter().find(|(text, _)| *text == word) {
-        Some((_, kind)) => *kind,
+    match WORDED.iter().find(|kind| word_of(**kind) == word) {
+        Some(kind) => *kind,
         None => Kind::Unknown,
     }
 }
