@@ -81,7 +81,8 @@ fn tally_answer(sheet: &[u8], room: &mut [u8]) -> usize
     }
 }
 
-// The answer to a request about a sheet, at the front of the room; how many bytes it has.
+// The answer to a request about a sheet, at the front of the room; how many bytes it has. Each answer is asked for in its own way, so
+// that this is a match, and no table of closures.
 pub fn answer(request: Request, sheet: &[u8], room: &mut [u8]) -> usize
     requires { enough_room ≤ length room.old }
     ensures wrote { Wrote (answer_text most_nodes request sheet.now) room.old room.new 0 result }

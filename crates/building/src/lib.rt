@@ -22,14 +22,6 @@ pub struct Built {
     pub next: usize,
 }
 
-// The kind whose word stands there.
-fn kind_at(text: &[u8], at: usize, end: usize) -> Kind
-    requires { (at ≤ end) × (end ≤ length text.now) }
-    ensures { result ≡ kind_named (take (end - at) (drop at text.now)) }
-{
-    words::kind_named(&text[at..end])
-}
-
 // The record of a kind with its operands.
 fn operator(kind: Kind, a: usize, b: usize, c: usize) -> Record
     requires { (a < word_limit) × (b < word_limit) × (c < word_limit) }
@@ -73,14 +65,6 @@ fn leaf(text: &[u8], count: usize, word: &[u8]) -> Record
     }
 }
 
-// The same of the word that stands there.
-fn leaf_at(text: &[u8], count: usize, at: usize, end: usize) -> Record
-    requires { (count ≤ most_variables) × (at ≤ end) × (end ≤ length text.now) }
-    ensures { result ≡ leaf_record (names_in count text.now) (take (end - at) (drop at text.now)) }
-{
-    leaf(text, count, &text[at..end])
-}
-
 // The last record of an expression, whose words end there.
 fn put(sheet: &mut [u8], fields: Record, node: usize, end: usize) -> Built
     requires { (node < most_nodes) × (node_place node + node_bytes ≤ length sheet.old) }
@@ -100,9 +84,10 @@ pub fn build(text: &[u8], count: usize, at: usize, sheet: &mut [u8], node: usize
     ensures { Builds text.now count at node sheet.old result sheet.new }
 {
     let end = words::word_end(text, at);
-    let kind = kind_at(text, at, end);
+    let word = &text[at..end];
+    let kind = words::kind_named(word);
     match kinds::shape_of(kind) {
-        Shape::Wrong => put(sheet, leaf_at(text, count, at, end), node, end),
+        Shape::Wrong => put(sheet, leaf(text, count, word), node, end),
         Shape::Bare => put(sheet, operator(kind, 0, 0, 0), node, end),
         Shape::Valued | Shape::Named => Built { end, next: node },
         Shape::One(_) => one(text, count, kind, end + 1, sheet, node),

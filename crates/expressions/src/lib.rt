@@ -11,9 +11,6 @@ use kinds::{Record, Shape};
 use numbers::{NodeNumber, VariableNumber};
 use reading::accepted::Accepted;
 
-// What stands between words.
-pub const BLANK: [u8; 1] = *b" ";
-
 // A variable's name, from a place of the room on.
 pub fn put_name(sheet: &Accepted, n: VariableNumber, room: &mut [u8], at: usize) -> usize
     requires { (n.0 < variable_count sheet.now) × (at + length (variable_at sheet.now n.0).name ≤ length room.old) }
@@ -55,7 +52,7 @@ pub fn operand(sheet: &Accepted, node: NodeNumber, room: &mut [u8], at: usize) -
     requires { (node.0 < node_count sheet.now) × (at + length (ascii " " ++ phrase_at sheet.now node.0) ≤ length room.old) }
     ensures { Wrote (ascii " " ++ phrase_at sheet.now node.0) room.old room.new at result }
 {
-    let next = room::put(room, at, &BLANK);
+    let next = room::put(room, at, &room::BLANK);
     next + phrase(sheet, node, &mut room[next..])
 }
 

@@ -4,6 +4,7 @@
 
 ghost use Rattle.std.specs.Prelude.{◌≡◌, ◌+◌, ◌*◌, ◌≤◌, ◌<◌, ◌==◌, length};
 ghost use Rattle.std.specs.List.{list_all};
+ghost use Rattle.numbers.specs.Bytes.{word_limit};
 ghost use Rattle.layout.specs.Limits.{block_bytes, content_bytes, most_variables, most_nodes, sheet_bytes, most_blocks};
 ghost use Rattle.layout.specs.Parts.{node_count, variable_count};
 ghost use Rattle.refusals.specs.Said.{said_of};
@@ -48,6 +49,14 @@ pub fn clear(sheet: &[u8], at: usize, n: usize) -> bool
     all_zero(&sheet[at..at + n])
 }
 
+// The bytes of a sheet of so many nodes.
+pub fn sheet_bytes(nodes: usize) -> usize
+    requires { nodes < word_limit }
+    ensures { result ≡ sheet_bytes nodes }
+{
+    BLOCK_BYTES * ((nodes + (NODES_IN_BLOCK - 1)) / NODES_IN_BLOCK + 1)
+}
+
 // Whether the counts and the length keep their rules.
 #[tactic(auto, unfolding(crate::specs::Header::counts_right))]
 fn counts_right(sheet: &[u8]) -> bool
@@ -56,10 +65,7 @@ fn counts_right(sheet: &[u8]) -> bool
 {
     let n = node_count(sheet);
     let v = variable_count(sheet);
-    1 <= n
-        && n <= MOST_NODES
-        && v <= MOST_VARIABLES
-        && sheet.len() == BLOCK_BYTES * ((n + (NODES_IN_BLOCK - 1)) / NODES_IN_BLOCK + 1)
+    1 <= n && n <= MOST_NODES && v <= MOST_VARIABLES && sheet.len() == sheet_bytes(n)
 }
 
 // Where the used bytes of block k end.

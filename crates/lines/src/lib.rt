@@ -1,4 +1,5 @@
 // The lines of a script that are about variables, written into lent room: declarations, ranges and values asked for.
+// How many variables there are is a number with a clause: in a type it would be unwrapped at each use and for each loop.
 #![tactic(auto)]
 
 ghost use Rattle.std.specs.Prelude.{◌≡◌, ◌+◌, ◌≤◌, ◌<◌, length};
@@ -10,7 +11,8 @@ ghost use Rattle.pieces.specs.Sizes.{longest_symbol};
 ghost use Rattle.lines.specs.Lines.{declaration_line, range_start, range_end, range_line, spaced, further_symbol, values_line, declaration_bytes, start_bytes, end_bytes, range_bytes, lines_bytes, spaced_bytes, LinesSize};
 
 use numbers::VariableNumber;
-use pieces::{BLANK, CONSTANT_BYTES};
+use pieces::CONSTANT_BYTES;
+use room::BLANK;
 
 // The texts that stand around symbols and constants.
 const DECLARE: [u8; 13] = *b"(declare-fun ";

@@ -3,14 +3,13 @@
 
 ghost use Rattle.std.specs.Prelude.{◌≡◌, true, ◌+◌, ◌≤◌, ◌<◌, length, replicate};
 ghost use Rattle.layout.specs.Limits.{most_variables, most_nodes, sheet_bytes, most_sheet_bytes};
-ghost use Rattle.texts.specs.Numbers.{is_number, number_of};
 ghost use Rattle.texts.specs.Texts.{Text};
 ghost use Rattle.sheets.specs.Laying.{with_variable};
 ghost use Rattle.room.specs.Written.{Fills};
 ghost use Rattle.maker.specs.Makes.{Makes};
 ghost use Rattle.maker.specs.Lays.{between, variable_between, BetweenReady, LineReady, LinePut, LinesReady, LinesPut, Counts, SheetReady, sheet_refusal, Lays};
 
-use layout::{BLOCK_BYTES, MOST_NODES, MOST_SHEET_BYTES, MOST_VARIABLES, NODES_IN_BLOCK};
+use layout::{BLOCK_BYTES, MOST_NODES, MOST_SHEET_BYTES, MOST_VARIABLES};
 use numbers::VariableNumber;
 use reading::accepted::{self, Accepted};
 use refusals::{Cause, Refused};
@@ -19,21 +18,13 @@ use words::{GOAL_START, NAME_START};
 // The spaces of a variable's line.
 const LINE_SPACES: usize = 3;
 
-// The number that stands there.
-fn number_at(text: &[u8], at: usize, end: usize) -> i16
-    requires { (at ≤ end) × (end ≤ length text.now) × (is_number (between text.now at end) ≡ true) }
-    ensures { result ≡ number_of (between text.now at end) }
-{
-    words::number_of(&text[at..end])
-}
-
 // A variable's record, from its name up to the first end, and the numbers up to the next two.
 fn put_between(text: &[u8], at: usize, p: usize, q: usize, r: usize, sheet: &mut [u8], i: usize)
     requires { BetweenReady text.now at p q r i (length sheet.old) }
     ensures { sheet.new ≡ with_variable i (variable_between text.now at p q r) sheet.old }
 {
-    let low = number_at(text, p + 1, q);
-    let high = number_at(text, q + 1, r);
+    let low = words::number_of(&text[p + 1..q]);
+    let high = words::number_of(&text[q + 1..r]);
     sheets::put_variable(sheet, VariableNumber(i as u16), &text[at..p], low, high)
 }
 
@@ -115,7 +106,7 @@ fn sheet_size(nodes: usize) -> usize
     requires { nodes ≤ most_nodes }
     ensures { (result ≡ sheet_bytes nodes) × (result ≤ most_sheet_bytes) }
 {
-    BLOCK_BYTES * ((nodes + (NODES_IN_BLOCK - 1)) / NODES_IN_BLOCK + 1)
+    header::sheet_bytes(nodes)
 }
 
 // The sheet of a text within the limits.

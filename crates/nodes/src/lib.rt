@@ -41,6 +41,7 @@ pub fn read_nodes(sheet: &[u8]) -> Result<(), Refused>
 {
     let n = header::node_count(sheet);
     let v = header::variable_count(sheet);
+    // Two arrays, since `order` is lent the one and `findings` the other.
     let mut starts = [0u16; MOST_NODES];
     let mut findings = [Kept {
         finding: Finding::Truth,

@@ -1,4 +1,5 @@
 // Where a node's operands must stand, and what else its record must keep: refusal 6.
+// How far `starts` is filled is said beside a node's number: what binds one argument by another is a clause, and no type.
 #![tactic(auto)]
 
 ghost use Rattle.std.specs.Prelude.{◌≡◌, ◌+◌, ◌*◌, ◌≤◌, ◌<◌, [], ◌∷◌, true, ◌&&◌, eqb};

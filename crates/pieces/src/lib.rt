@@ -15,8 +15,6 @@ use numbers::VariableNumber;
 // What stands around words and operands.
 pub const OPEN: [u8; 1] = *b"(";
 
-pub const BLANK: [u8; 1] = *b" ";
-
 pub const CLOSE: [u8; 1] = *b")";
 
 // The bytes of a constant.

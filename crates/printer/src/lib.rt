@@ -18,11 +18,11 @@ ghost use Rattle.texts.specs.WordKinds.{behind_word, is_none};
 ghost use Rattle.printer.specs.Lines.{line_at, line_start, line_end, goal_text};
 ghost use Rattle.printer.specs.Prints.{word_refusal, Prints};
 
-use expressions::BLANK;
 use layout::MAX_OFFSET;
 use numbers::VariableNumber;
 use reading::accepted::{self, Accepted};
 use refusals::{Cause, Refused};
+use room::BLANK;
 
 // A room of so many bytes is enough for the text of every accepted sheet.
 pub const LONGEST_TEXT: usize = 23183;

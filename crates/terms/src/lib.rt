@@ -9,8 +9,9 @@ ghost use Rattle.terms.specs.Texts.{text_at, one_open, two_open, three_open};
 
 use kinds::{Record, Shape};
 use numbers::{NodeNumber, VariableNumber};
-use pieces::{BLANK, CLOSE, CONSTANT_BYTES, OPEN};
+use pieces::{CLOSE, CONSTANT_BYTES, OPEN};
 use reading::accepted::Accepted;
+use room::BLANK;
 
 // The bytes of a node's text besides its word and its operands, by the number of these.
 const ONE_BYTES: usize = OPEN.len() + BLANK.len() + CLOSE.len();

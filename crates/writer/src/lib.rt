@@ -13,9 +13,9 @@ ghost use Rattle.room.specs.Room.{Wrote};
 ghost use Rattle.writer.specs.Frame.{produce_models, opening_lines, goal_lines, ending_lines, models_bytes};
 ghost use Rattle.writer.specs.Writes.{Writes};
 
-use pieces::BLANK;
 use reading::accepted::Accepted;
 use refusals::{Cause, Refused};
+use room::BLANK;
 use wording::ScriptForm;
 
 // A room of so many bytes is enough for both scripts of every accepted sheet.

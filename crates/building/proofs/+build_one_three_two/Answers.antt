@@ -7,14 +7,11 @@ use Rattle.building.proofs.ViewLaws.{word-inside, leaf-laid, bare-laid, never, o
 use Rattle.building.proofs.ReadyLaws.{first-kept, one-ask, one_kept, one-built, two-ask, two-end, two-kept, two-ask-2, two-kept-2, two-built, three-ask, three-end, three-kept, three-ask-2, three-end-2, three-kept-2, three-ask-3, three-kept-3, three-built, one-operand, two_operands, three-operands}
 use Rattle.building.proofs.+build_one_three_two.Goals as goal
 
+pub build-slice_bounds-word-end : goal.build-slice_bounds-word-end
+build-slice_bounds-word-end t c = let w = word-inside c.requires.ready.spelt c.word_end-end.ensures in omega (arith, w.1)
+
 pub build-word_end-end-requires : goal.build-word_end-end-requires
 build-word_end-end-requires t c = let r = c.requires.ready in omega (arith, inside r.spelt.words)
-
-pub build-kind_at-kind-requires : goal.build-kind_at-kind-requires
-build-kind_at-kind-requires t c = let w = word-inside c.requires.ready.spelt c.word_end-end.ensures in (w.0, omega (arith, w.1))
-
-pub build-leaf_at-requires : goal.build-leaf_at-requires
-build-leaf_at-requires t c = let r = c.requires.ready in let w = word-inside r.spelt c.word_end-end.ensures in (r.few, w.0, omega (arith, w.1))
 
 pub build-put-requires : goal.build-put-requires
 build-put-requires t c = first-kept _ c.requires.ready
@@ -26,42 +23,42 @@ pub build-overflow_add-end : goal.build-overflow_add-end
 build-overflow_add-end t c = let w = word-inside c.requires.ready.spelt c.word_end-end.ensures in omega (arith, w.1)
 
 pub build-one-requires : goal.build-one-requires
-build-one-requires t c = let r = c.requires.ready in let w = word-inside r.spelt c.word_end-end.ensures in (omega (arith, w.0, w.1), one-operand r (one-here r.spelt c.word_end-end.ensures c.kind_at-kind.ensures c.shape_of.ensures c.in-One.is))
+build-one-requires t c = let r = c.requires.ready in let w = word-inside r.spelt c.word_end-end.ensures in (omega (arith, w.0, w.1), one-operand r (one-here r.spelt c.word_end-end.ensures c.kind_named-kind.ensures c.shape_of.ensures c.in-One.is))
 
 pub build-overflow_add-end-in-Two : goal.build-overflow_add-end-in-Two
 build-overflow_add-end-in-Two t c = let w = word-inside c.requires.ready.spelt c.word_end-end.ensures in omega (arith, w.1)
 
 pub build-two-requires : goal.build-two-requires
-build-two-requires t c = let r = c.requires.ready in let w = word-inside r.spelt c.word_end-end.ensures in (omega (arith, w.0, w.1), two_operands r (two_here r.spelt c.word_end-end.ensures c.kind_at-kind.ensures c.shape_of.ensures c.in-Two.is))
+build-two-requires t c = let r = c.requires.ready in let w = word-inside r.spelt c.word_end-end.ensures in (omega (arith, w.0, w.1), two_operands r (two_here r.spelt c.word_end-end.ensures c.kind_named-kind.ensures c.shape_of.ensures c.in-Two.is))
 
 pub build-overflow_add-end-in-Three : goal.build-overflow_add-end-in-Three
 build-overflow_add-end-in-Three t c = let w = word-inside c.requires.ready.spelt c.word_end-end.ensures in omega (arith, w.1)
 
 pub build-three-requires : goal.build-three-requires
-build-three-requires t c = let r = c.requires.ready in let w = word-inside r.spelt c.word_end-end.ensures in (omega (arith, w.0, w.1), three-operands r (three-here r.spelt c.word_end-end.ensures c.kind_at-kind.ensures c.shape_of.ensures c.in-Three.is))
+build-three-requires t c = let r = c.requires.ready in let w = word-inside r.spelt c.word_end-end.ensures in (omega (arith, w.0, w.1), three-operands r (three-here r.spelt c.word_end-end.ensures c.kind_named-kind.ensures c.shape_of.ensures c.in-Three.is))
 
 pub build-returns-in-Wrong : goal.build-returns-in-Wrong
-build-returns-in-Wrong t c = record { all = λ vs e s. leaf-laid s c.word_end-end.ensures c.kind_at-kind.ensures c.shape_of.ensures c.in-Wrong.is c.leaf_at.ensures c.put.ensures }
+build-returns-in-Wrong t c = record { all = λ vs e s. leaf-laid s c.word_end-end.ensures c.kind_named-kind.ensures c.shape_of.ensures c.in-Wrong.is c.leaf.ensures c.put.ensures }
 
 pub build-returns-in-Bare : goal.build-returns-in-Bare
-build-returns-in-Bare t c = record { all = λ vs e s. bare-laid s c.word_end-end.ensures c.kind_at-kind.ensures c.shape_of.ensures c.in-Bare.is c.operator.ensures c.put-in-Bare.ensures }
+build-returns-in-Bare t c = record { all = λ vs e s. bare-laid s c.word_end-end.ensures c.kind_named-kind.ensures c.shape_of.ensures c.in-Bare.is c.operator.ensures c.put-in-Bare.ensures }
 
 pub build-returns-in-Valued : goal.build-returns-in-Valued
 build-returns-in-Valued t c =
     let s = c.requires.ready.spelt in
     absurd (elim c.in-Valued.is [
-      | inl h ↦ never s c.word_end-end.ensures c.kind_at-kind.ensures c.shape_of.ensures h refl refl
-      | inr h ↦ never s c.word_end-end.ensures c.kind_at-kind.ensures c.shape_of.ensures h refl refl
+      | inl h ↦ never s c.word_end-end.ensures c.kind_named-kind.ensures c.shape_of.ensures h refl refl
+      | inr h ↦ never s c.word_end-end.ensures c.kind_named-kind.ensures c.shape_of.ensures h refl refl
     ])
 
 pub build-returns-in-One : goal.build-returns-in-One
-build-returns-in-One t c = record { all = λ vs e s. one-laid s c.word_end-end.ensures c.kind_at-kind.ensures c.shape_of.ensures c.in-One.is c.one.ensures }
+build-returns-in-One t c = record { all = λ vs e s. one-laid s c.word_end-end.ensures c.kind_named-kind.ensures c.shape_of.ensures c.in-One.is c.one.ensures }
 
 pub build-returns-in-Two : goal.build-returns-in-Two
-build-returns-in-Two t c = record { all = λ vs e s. two-laid s c.word_end-end.ensures c.kind_at-kind.ensures c.shape_of.ensures c.in-Two.is c.two.ensures }
+build-returns-in-Two t c = record { all = λ vs e s. two-laid s c.word_end-end.ensures c.kind_named-kind.ensures c.shape_of.ensures c.in-Two.is c.two.ensures }
 
 pub build-returns-in-Three : goal.build-returns-in-Three
-build-returns-in-Three t c = record { all = λ vs e s. three-laid s c.word_end-end.ensures c.kind_at-kind.ensures c.shape_of.ensures c.in-Three.is c.three.ensures }
+build-returns-in-Three t c = record { all = λ vs e s. three-laid s c.word_end-end.ensures c.kind_named-kind.ensures c.shape_of.ensures c.in-Three.is c.three.ensures }
 
 pub one-build-a-requires : goal.one-build-a-requires
 one-build-a-requires t c = (omega arith, one-ask c.requires)

@@ -3,4 +3,4 @@ use Rattle.maker.proofs.LineLaws.{numbers-kept}
 use Rattle.maker.proofs.put_between.Goals as goal
 
 pub returns : goal.returns
-returns c = numbers-kept c.requires c.number_at-low.ensures c.number_at-high.ensures _ c.put_variable.ensures
+returns c = numbers-kept c.requires c.number_of-low.ensures c.number_of-high.ensures _ c.put_variable.ensures
