@@ -14,6 +14,8 @@ ghost use Rattle.texts.specs.Counts.{occurrences};
 use kinds::{Kind, Shape};
 use layout::MOST_NAME_BYTES;
 
+pub mod whole;
+
 // The bytes before a line's name, `var` and a space, and before the goal's expression, `goal` and a space.
 pub const NAME_START: usize = 4;
 
