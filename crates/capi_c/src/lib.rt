@@ -1,4 +1,5 @@
-// What C and Rust call, as include/ragwashin.h declares it: each call is capi's of the same name, with the same promise.
+// What C and Rust call, as include/ragwashin.h declares it: each call is capi's of the same name, with the same promise. It is a crate
+// of its own, since C's static library is no library for Rattle.
 #![tactic(auto)]
 
 ghost use Rattle.std.specs.Prelude.{◌≡◌, true, false};

@@ -64,7 +64,7 @@ fn apply(kind: Kind, x: i32, y: i32, z: i32) -> i32
     }
 }
 
-// The value of a node in a case, as a number: a truth value is 1 or 0.
+// The value of a node in a case, as a number: a truth value is 1 or 0, and no enum, as one function gives both sorts (`Numbers: number_of`).
 pub fn value(sheet: &[u8], case: &[i32; MOST_VARIABLES], node: NodeNumber) -> i32
     requires { Standing sheet.now case.now × (node.0 < node_count sheet.now) }
     ensures { result ≡ number_of (tree_at (table sheet.now) node.0).0 (Value.value (value_in case.now) (tree_at (table sheet.now) node.0).1) }

@@ -27,7 +27,7 @@ pub enum Finding {
     Integer(Range),
 }
 
-// The range that stands where there is none.
+// The range that stands where there is none, since a kind's rule takes three ranges whatever it has (`Findings: no_range`).
 const NO_RANGE: Range = Range { low: 0, high: 0 };
 
 // What was kept of a node.

@@ -14,13 +14,12 @@ use Rattle.texts.specs.Plain.{name_of, spelled, variable_line, goal_line, printe
 use Rattle.texts.specs.Texts.{AllDeclarable, Says}
 use Rattle.texts.proofs.SpellingLaws.{feed-separates}
 use Rattle.texts.proofs.DraftLaws.{declared-name}
-use Rattle.texts.proofs.CountLaws.{line-feeds, spaces}
 use Rattle.sheets.specs.Laying.{with_counts, with_checks, laid}
 use Rattle.sheets.proofs.LaidLaws.{laid-sheet}
 use Rattle.building.specs.declared.Built.{Built}
 use Rattle.building.proofs.WordLaws.{inside}
 use Rattle.building.specs.Building.{WordsAt, Declares, Spelt, Buildable, Builds}
-use Rattle.maker.specs.Lays.{LinesReady, LinesPut, Counts, SheetReady, Lays}
+use Rattle.maker.specs.Lays.{LinesReady, LinesPut, SheetReady, Lays}
 
 -- ---- a text by its lines
 module _ {text : List ℕ} {d : Draft} (h : Says text d) where
@@ -43,14 +42,6 @@ module _ {text : List ℕ} {d : Draft} (h : Says text d) where
   pub goal-spelt : {count place : ℕ} → length d.variables ≡ count → place ≡ length (joined variable_line d.variables) → Spelt text count (place + 5) d.variables (d.goal ∷ [])
   goal-spelt e p = record { names = declares e; writable = (h.goal, tt); words = goal-words p }
 
--- ---- the counts
-module _ {text : List ℕ} {variables nodes : ℕ} (c : Counts text variables nodes) {d : Draft} (h : Says text d) where
-  pub variables-are : length d.variables ≡ variables
-  variables-are = omega (arith, c.feeds, line-feeds h)
-
-  pub nodes-are : length (records_of d.goal 0) ≡ nodes
-  nodes-are = omega (arith, c.spaces, spaces h, variables-are)
-
 short-names : (vs : List Variable) → AllDeclarable vs → (i : ℕ) → i < length vs → length (name_of vs i) ≤ most_name_bytes
 short-names vs d i l = (declared-name vs i d l).short
 
@@ -58,20 +49,20 @@ module _ {text : List ℕ} {variables nodes size : ℕ} (r : SheetReady text var
   pub lay-lines : {now : ℕ} → size ≤ now → LinesReady text variables now
   lay-lines l =
       let t = r.counts.text in
-      record { variables = t.draft.variables; declares = declares t.says (variables-are r.counts t.says); few = r.few; room = omega (arith, r.size) }
+      record { variables = t.draft.variables; declares = declares t.says (r.counts.variables-are t.draft t.says); few = r.few; room = omega (arith, r.size) }
 
   -- behind the lines of the variables
   pub goal-place : {before after : List ℕ} {place : ℕ} → LinesPut text variables before place after → place + 5 ≤ length text
   goal-place l =
       let t = r.counts.text in
-      let e = l.all _ (declares t.says (variables-are r.counts t.says)) in
+      let e = l.all _ (declares t.says (r.counts.variables-are t.draft t.says)) in
       omega (arith, inside (goal-words t.says e.place))
 
   pub lay-goal : {before after : List ℕ} {place : ℕ} → LinesPut text variables before place after → {now : ℕ} → size ≤ now → Buildable text variables (place + 5) now 0
   lay-goal l k =
       let t = r.counts.text in
-      let n = variables-are r.counts t.says in
-      let m = nodes-are r.counts t.says in
+      let n = r.counts.variables-are t.draft t.says in
+      let m = r.counts.nodes-are t.draft t.says in
       let e = l.all _ (declares t.says n) in
       record {
         variables = t.draft.variables;
@@ -88,8 +79,8 @@ module _ {text : List ℕ} {variables nodes size : ℕ} (r : SheetReady text var
       every d h z =
           let vs : List Variable = d.variables in
           let rs : List Record = records_of d.goal 0 in
-          let n = variables-are r.counts h in
-          let m = nodes-are r.counts h in
+          let n = r.counts.variables-are d h in
+          let m = r.counts.nodes-are d h in
           let l = e₂.all vs (declares h n) in
           let b = e₃.all vs d.goal (goal-spelt h n l.place) in
           let k : count ≡ blocks_for (length rs) + 1 = omega (arith, r.size) in

@@ -28,7 +28,6 @@ use Rattle.texts.specs.Texts.{Says, Text}
 use Rattle.scan.specs.Scanned.{ScanSays}
 use Rattle.maker.specs.Makes.{draft_refusal, Makes}
 use Rattle.maker.specs.Lays.{Counts, SheetReady, sheet_refusal, Lays}
-use Rattle.maker.proofs.LayLaws.{variables-are, nodes-are}
 
 -- ---- a sheet
 pub sheet-refused : (s before : List ℕ) {a : Result ℕ Refused} {e : Refused} → a ≡ Err e → refusal_of most_nodes s ≡ some (told e) → Fills (sheet_refusal most_nodes s (length before)) s before a before
@@ -60,7 +59,7 @@ sheet-makes {text} r {s = s} {z = z} {before = before} {after = after} {a = a} e
   where
     every : (d : Draft) → Says text d → Fills (draft_refusal most_nodes d (length before)) (draft_sheet d) before a after
     every d h =
-        rw (within-limits d (omega (arith, r.few, variables-are r.counts h)) (omega (arith, r.most, nodes-are r.counts h)) (length before), ← l.all d h e) f
+        rw (within-limits d (omega (arith, r.few, r.counts.variables-are d h)) (omega (arith, r.most, r.counts.nodes-are d h)) (length before), ← l.all d h e) f
 
 -- too much for a sheet
 module _ {text : List ℕ} {variables nodes : ℕ} (c : Counts text variables nodes) (before : List ℕ) where
@@ -69,10 +68,10 @@ module _ {text : List ℕ} {variables nodes : ℕ} (c : Counts text variables no
   over f = record { off = λ p h. no-leaves c.text h; said = λ d h. fills-refused (draft_sheet d) before refl (otherwise-some _ (unless-false 4 0 (f d h))) }
 
   pub many-variables : most_variables < variables → Makes most_nodes text before (Err (record { cause = counts; place = 0 })) before
-  many-variables l = over (λ d h. rw (lt-leb (length d.variables) most_variables (omega (arith, variables-are c h))))
+  many-variables l = over (λ d h. rw (lt-leb (length d.variables) most_variables (omega (arith, c.variables-are d h))))
 
   pub many-nodes : most_nodes < nodes → Makes most_nodes text before (Err (record { cause = counts; place = 0 })) before
-  many-nodes l = over (λ d h. rw (lt-leb (length (records_of d.goal 0)) most_nodes (omega (arith, nodes-are c h)), and-false))
+  many-nodes l = over (λ d h. rw (lt-leb (length (records_of d.goal 0)) most_nodes (omega (arith, c.nodes-are d h)), and-false))
 
 -- bytes that are no text
 pub text-refused : {text : List ℕ} (before : List ℕ) {p : ℕ} {a : Result ℕ Refused} → a ≡ Err (record { cause = no_text; place = p }) → Leaves Text text p → Makes most_nodes text before a before

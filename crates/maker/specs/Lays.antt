@@ -1,5 +1,5 @@
 -- Follows the code: a variable's line in a text, and what laying its record and the whole sheet asks and leaves.
-use Rattle.std.specs.Prelude.{ℕ, suc, ◌+◌, ◌*◌, ◌-◌, ◌≤◌, ◌<◌, ◌≡◌, true, List, ◌++◌, leb, length, take, drop, replicate}
+use Rattle.std.specs.Prelude.{ℕ, suc, ◌+◌, ◌-◌, ◌≤◌, ◌<◌, ◌≡◌, true, List, ◌++◌, leb, length, take, drop, replicate}
 use Rattle.std.proofs.Math.Option.{Option}
 use Rattle.lists.specs.Ascii.{ascii}
 use Rattle.lists.specs.Joined.{joined}
@@ -11,11 +11,10 @@ use Rattle.layout.specs.Limits.{block_bytes, most_name_bytes, most_variables, mo
 use Rattle.refusals.specs.declared.Refusal.{Refusal}
 use Rattle.refusals.specs.Said.{unless}
 use Rattle.reading.specs.Cascade.{refusal_of}
-use Rattle.texts.specs.Expressions.{Draft, draft_sheet}
+use Rattle.texts.specs.Expressions.{records_of, Draft, draft_sheet}
 use Rattle.texts.specs.Plain.{variable_line}
 use Rattle.texts.specs.Texts.{Declarable, Says, Text}
 use Rattle.texts.specs.Numbers.{is_number, number_of}
-use Rattle.texts.specs.Counts.{occurrences}
 use Rattle.sheets.specs.Laying.{with_variable, with_variables}
 use Rattle.building.specs.Building.{WordsAt, Declares}
 
@@ -72,11 +71,11 @@ pub record LinesLaid (vs : List Variable) (before : List ℕ) (r : ℕ) (after :
 pub record LinesPut (text : List ℕ) (count : ℕ) (before : List ℕ) (r : ℕ) (after : List ℕ) : Type 0 where
   pub all : (vs : List Variable) → Declares text count vs → LinesLaid vs before r after
 
--- the counts that a text's line feeds and spaces give, within the limits, and a sheet of their size
+-- how many variables and nodes a text has, within the limits, and a sheet of their size
 pub record Counts (s : List ℕ) (variables nodes : ℕ) : Type 0 where
   pub text : Text s
-  pub feeds : occurrences 10 s ≡ suc variables
-  pub spaces : occurrences 32 s ≡ 3 * variables + nodes
+  pub variables-are : (d : Draft) → Says s d → length d.variables ≡ variables
+  pub nodes-are : (d : Draft) → Says s d → length (records_of d.goal 0) ≡ nodes
 
 pub record SheetReady (text : List ℕ) (variables nodes room : ℕ) : Type 0 where
   pub counts : Counts text variables nodes

@@ -13,10 +13,8 @@ use layout::{BLOCK_BYTES, MOST_NODES, MOST_SHEET_BYTES, MOST_VARIABLES};
 use numbers::VariableNumber;
 use reading::accepted::{self, Accepted};
 use refusals::{Cause, Refused};
+use words::whole::Whole;
 use words::{GOAL_START, NAME_START};
-
-// The spaces of a variable's line.
-const LINE_SPACES: usize = 3;
 
 // A variable's record, from its name up to the first end, and the numbers up to the next two.
 fn put_between(text: &[u8], at: usize, p: usize, q: usize, r: usize, sheet: &mut [u8], i: usize)
@@ -125,32 +123,18 @@ fn make_sheet(
 }
 
 // The sheet of a text, or refusal 4 where a sheet can't have so much.
-fn make_counted(
-    text: &[u8],
-    variables: usize,
-    nodes: usize,
-    room: &mut [u8],
-) -> Result<usize, Refused>
-    requires { Counts text.now variables nodes }
+fn make_whole(text: &Whole, room: &mut [u8]) -> Result<usize, Refused>
     ensures { Makes most_nodes text.now room.old result room.new }
 {
+    let variables = text.variable_count();
+    let nodes = text.node_count();
     if MOST_VARIABLES < variables || MOST_NODES < nodes {
         return Err(Refused {
             cause: Cause::Counts,
             place: 0,
         });
     }
-    make_sheet(text, variables, nodes, room)
-}
-
-// The sheet of a text: its lines are its variables' and the goal's, and a space stands before each node's word.
-fn make_whole(text: &[u8], room: &mut [u8]) -> Result<usize, Refused>
-    requires { Text text.now }
-    ensures { Makes most_nodes text.now room.old result room.new }
-{
-    let variables = words::occurrences(text, b'\n') - 1;
-    let nodes = words::occurrences(text, b' ') - LINE_SPACES * variables;
-    make_counted(text, variables, nodes, room)
+    make_sheet(text.bytes(), variables, nodes, room)
 }
 
 // The sheet to the front of the room; a refusal leaves the room untouched.
@@ -158,7 +142,7 @@ pub fn make(text: &[u8], room: &mut [u8]) -> Result<usize, Refused>
     ensures { Makes most_nodes text.now room.old result room.new }
 {
     match scan::scan(text) {
-        Ok(()) => make_whole(text, room),
+        Ok(()) => make_whole(&Whole::new(text), room),
         Err(place) => Err(Refused {
             cause: Cause::Text,
             place,

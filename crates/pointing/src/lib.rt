@@ -3,8 +3,8 @@
 
 ghost use Rattle.std.specs.Prelude.{◌≡◌, ◌+◌, ◌≤◌, ◌<◌, length, drop};
 ghost use Rattle.grammar.specs.Words.{word_length};
-ghost use Rattle.texts.specs.Expressions.{Draft, records_of};
-ghost use Rattle.texts.specs.Texts.{Says, Text};
+ghost use Rattle.texts.specs.Expressions.{Draft};
+ghost use Rattle.texts.specs.Texts.{Says};
 ghost use Rattle.texts.specs.Places.{separates, first_word};
 ghost use Rattle.pointing.specs.Pointing.{name_places, word_places, goal_place, nth, pointed_at, line_of, column_of};
 ghost use Rattle.pointing.specs.Pointed.{pointed_said};
@@ -12,6 +12,7 @@ ghost use Rattle.pointing.specs.Standing.{operand_count, Begun, Spans, Reaches, 
 ghost use Rattle.pointing.specs.Lines.{LineBegun, PassesLine, LinesReach, LineAt};
 
 use refusals::{Cause, Refusal};
+use words::whole::Whole;
 use words::{GOAL_START, NAME_START};
 
 // The place behind an expression and its separator, and how many nodes it has.
@@ -54,21 +55,12 @@ fn line_start(text: &[u8], i: usize) -> usize
     line
 }
 
-// A line feed for each variable, and one for the goal.
-fn variable_count(text: &[u8]) -> usize
-    requires { Text text.now }
-    ensures { (d : Draft) → Says text.now d → result ≡ length d.variables }
-{
-    words::occurrences(text, b'\n') - 1
-}
-
 // Where the name of variable i stands.
-fn name_pointed(text: &[u8], i: usize) -> Option<usize>
-    requires { Text text.now }
+fn name_pointed(text: &Whole, i: usize) -> Option<usize>
     ensures { (d : Draft) → Says text.now d → pointed_said result ≡ nth (name_places d.variables 0) i }
 {
-    if i < variable_count(text) {
-        Some(line_start(text, i) + NAME_START)
+    if i < text.variable_count() {
+        Some(line_start(text.bytes(), i) + NAME_START)
     } else {
         None
     }
@@ -122,29 +114,19 @@ fn word_of(text: &[u8], start: usize, n: usize) -> usize
     }
 }
 
-// A space before each node's word, and three in each variable's line.
-fn node_count(text: &[u8]) -> usize
-    requires { Text text.now }
-    ensures { (d : Draft) → Says text.now d → result ≡ length (records_of d.goal 0) }
-{
-    words::occurrences(text, b' ') - 3 * variable_count(text)
-}
-
 // Where the goal's expression stands.
-fn goal_start(text: &[u8]) -> usize
-    requires { Text text.now }
+fn goal_start(text: &Whole) -> usize
     ensures { (d : Draft) → Says text.now d → result ≡ goal_place d.variables }
 {
-    line_start(text, variable_count(text)) + GOAL_START
+    line_start(text.bytes(), text.variable_count()) + GOAL_START
 }
 
 // Where the word of node n stands.
-fn word_pointed(text: &[u8], n: usize) -> Option<usize>
-    requires { Text text.now }
+fn word_pointed(text: &Whole, n: usize) -> Option<usize>
     ensures { (d : Draft) → Says text.now d → pointed_said result ≡ nth (word_places d.variables d.goal (goal_place d.variables)) n }
 {
-    if n < node_count(text) {
-        Some(word_of(text, goal_start(text), n))
+    if n < text.node_count() {
+        Some(word_of(text.bytes(), goal_start(text), n))
     } else {
         None
     }
@@ -153,8 +135,7 @@ fn word_pointed(text: &[u8], n: usize) -> Option<usize>
 // ---- a refusal, and a place
 
 // Where a refusal of what a text says points.
-pub fn point(text: &[u8], refusal: Refusal) -> Option<usize>
-    requires { Text text.now }
+pub fn point(text: &Whole, refusal: Refusal) -> Option<usize>
     ensures { (d : Draft) → Says text.now d → pointed_said result ≡ pointed_at d refusal }
 {
     match Cause::try_from(refusal.number).ok()? {

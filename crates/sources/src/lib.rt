@@ -14,6 +14,7 @@ ghost use Rattle.sources.specs.Refusing.{Refuses, PointsInside};
 ghost use Rattle.sources.specs.Texts.{text_answer};
 
 use refusals::{Cause, Refusal, Refused};
+use words::whole::Whole;
 
 // A room of so many bytes is enough for the line of every refusal of a text.
 pub const LONGEST_LINE: usize = 111;
@@ -25,7 +26,7 @@ fn place_of(text: &[u8], refused: Refused) -> Option<usize>
 {
     match refused.cause {
         Cause::Text => Some(refused.place),
-        _ => pointing::point(text, refused.into()),
+        _ => pointing::point(&Whole::new(text), refused.into()),
     }
 }
 

@@ -116,7 +116,7 @@ pub fn reply_into(
     read_reply(&sheet, reply, room)
 }
 
-// What a reply comes to.
+// What a reply comes to. Two calls, with a room for the case and without: document 02 has both.
 pub fn reply(sheet: &[u8], reply: &[u8]) -> Result<Replied, Refused>
     ensures { Replies most_nodes sheet.now reply.now result }
 {

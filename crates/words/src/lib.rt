@@ -14,6 +14,8 @@ ghost use Rattle.texts.specs.Counts.{occurrences};
 use kinds::{Kind, Shape};
 use layout::MOST_NAME_BYTES;
 
+pub mod whole;
+
 // The bytes before a line's name, `var` and a space, and before the goal's expression, `goal` and a space.
 pub const NAME_START: usize = 4;
 
@@ -56,7 +58,7 @@ pub const WORDED: [Kind; 15] = [
     Kind::If,
 ];
 
-// A kind's plain word.
+// A kind's plain word. The table has the form of that in pieces, with other words: one match for both would be longer.
 pub fn word_of(kind: Kind) -> &'static [u8]
     ensures { result.now ≡ (row kind).plain }
 {

@@ -12,4 +12,4 @@ returns-in-Text c = points-off c.requires (ap number_of c.in-Text.is)
 
 pub returns-in_default : goal.returns-in_default
 returns-in_default c =
-    points-said (refused-text c.requires (λ n. c.in_default.not-Text (same-cause _ Text n))) (λ d s. c.point.ensures d s ∙ ap (pointed_at d) c.into.ensures)
+    points-said (refused-text c.requires (λ n. c.in_default.not-Text (same-cause _ Text n))) (λ d s. c.point.ensures d (rw (← c.new.ensures) at s) ∙ ap (pointed_at d) c.into.ensures)
