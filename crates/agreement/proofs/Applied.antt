@@ -143,7 +143,7 @@ module _ {s other : List ℕ} {held_cases failed_cases : ℕ} {first_case : Opti
   enough : (room : List ℤ) → length room ≡ 3 → variable_count s ≤ length room
   enough room l = omega (arith, two-variables)
 
-  pub tally-is : Tallies most_nodes s (Ok (record { held = held_cases; failed = failed_cases }))
+  pub tally-is : Tallies most_nodes s (record { reading = Ok tt; held = held_cases; failed = failed_cases })
   tally-is = let e = tallied sheet few-cases in record { answer = sym e; held-count = rw (e, fact (λ (x : Facts). x.held-cases)); failed-count = rw (e, fact (λ (x : Facts). x.failed-cases)) }
 
   -- ---- the promises about a sheet and its script

@@ -11,7 +11,7 @@ use Rattle.numbers.specs.declared.Range.{Range}
 use Rattle.meaning.specs.Odometer.{told, Lowered, Advanced}
 use Rattle.refusals.proofs.SaidLaws.{said-once}
 use Rattle.blocks.proofs.Unique.{block-once}
-use Rattle.reading.proofs.Unique.{read-once, name-once}
+use Rattle.reading.proofs.Unique.{read-once, accept-once, name-once}
 use Rattle.cases.proofs.Unique.{check-once, tally-once}
 use Rattle.writer.proofs.Unique.{write-once}
 use Rattle.replies.proofs.Unique.{reach-once, one-case}
@@ -64,6 +64,7 @@ one_answer = record {
 pub one-between : OneBetween
 one-between = record {
   step = λ said r t. said-once r t;
+  accept = accept-once;
   part = λ whole p q a n. part-once;
   lowest = λ domains v old x y. lowest-once;
   advance = λ domains v old x y r t. advance-once;

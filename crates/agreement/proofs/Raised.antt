@@ -118,7 +118,7 @@ module _ (a b : ℕ) (s : List ℕ) (e : refusal_of a s ≡ refusal_of b s) wher
   checks-as : {before after : List ℤ} {r : Result Verdict Refused} → Checks a s before r after → Checks b s before r after
   checks-as {before} h = record { answer = rw (← check-as (length before)) h.answer; room = rw (← check-as (length before)) h.room }
 
-  tallies-as : {r : Result Tallied Refused} → Tallies a s r → Tallies b s r
+  tallies-as : {r : Tallied} → Tallies a s r → Tallies b s r
   tallies-as h = record { answer = rw (← e) h.answer; held-count = rw (← e) h.held-count; failed-count = rw (← e) h.failed-count }
 
   writes_as : {f : Form} {before after : List ℕ} {r : Result ℕ Refused} → Writes a f s before r after → Writes b f s before r after

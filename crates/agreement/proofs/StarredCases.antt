@@ -63,7 +63,7 @@ module _ (s : List ℕ) (e : refusal_of most_nodes s ≡ none) where
       record { answer = rw (d, p); room = rw (d, p) }
 
   module _ (few : leb (case_count (rule_in s)) most_cases ≡ true) where
-    tallies-as : {h f : ℕ} → held (rule_in s) ≡ h → failed (rule_in s) ≡ f → Tallies most_nodes s (Ok (record { held = h; failed = f }))
+    tallies-as : {h f : ℕ} → held (rule_in s) ≡ h → failed (rule_in s) ≡ f → Tallies most_nodes s (record { reading = Ok tt; held = h; failed = f })
     tallies-as p q = record { answer = rw (e, few); held-count = rw (e, few, p); failed-count = rw (e, few, q) }
 
     checks-as : (room : List ℤ) {f : Option (List ℤ)} {r : Result Verdict Refused} → leb (variable_count s) (length room) ≡ true → first_failure (rule_in s) ≡ f → checked_said r ≡ (none, is_some f) → Checks most_nodes s room r (with_case f room)

@@ -9,6 +9,8 @@ use Rattle.numbers.specs.declared.Range.{Range}
 use Rattle.meaning.specs.Odometer.{Lowered, Advanced}
 use Rattle.refusals.specs.declared.Refusal.{Refusal}
 use Rattle.refusals.specs.Said.{said_of}
+use Rattle.layout.specs.Limits.{most_nodes}
+use Rattle.reading.specs.Accepts.{Accepts}
 use Rattle.room.specs.Room.{Wrote}
 use Rattle.lines.specs.Lines.{LinesSize}
 use Rattle.replies.specs.Answers.{Answers}
@@ -17,10 +19,11 @@ use Rattle.scan.specs.Scanned.{ScanSays}
 use Rattle.building.specs.declared.Built.{Built}
 use Rattle.building.specs.Building.{Buildable, Builds}
 
--- the steps of the reading, a name's part, the odometer, what writes into room, how long the lines of variables are, how far bytes begin a reply, and the numbers
+-- the steps of the reading, an accepted sheet as a type, a name's part, the odometer, what writes into room, how long the lines of variables are, how far bytes begin a reply, and the numbers
 -- that a reply spells; how far bytes begin a text, and the nodes of an expression that stands in one
 pub record OneBetween : Type 0 where
   pub step : (said : Option Refusal) (r t : Result Unit Refused) → said_of r ≡ said → said_of t ≡ said → r ≡ t
+  pub accept : (s : List ℕ) (r t : Result (List ℕ) Refused) → Accepts most_nodes s r → Accepts most_nodes s t → r ≡ t
   pub part : (whole p q : Bor (List ℕ)) (a n : ℕ) → PartAt whole p a n → PartAt whole q a n → SamePart p q
   pub lowest : (domains : ℕ → Range) (v : ℕ) (old x y : List ℤ) → Lowered domains v old x → Lowered domains v old y → x ≡ y
   pub advance : (domains : ℕ → Range) (v : ℕ) (old x y : List ℤ) (r t : Bool) → Advanced domains v old r x → Advanced domains v old t y → (r ≡ t) × (x ≡ y)

@@ -32,7 +32,7 @@ pub record SameAnswers (old new : ℕ) (s : List ℕ) : Type 0 where
   pub read : refusal_of new s ≡ refusal_of old s
   pub name : (sheet part : Bor (List ℕ)) (variable : ℕ) → sheet.now ≡ s → NamePart old sheet variable part ↔ NamePart new sheet variable part
   pub check : (before after : List ℤ) (r : Result Verdict Refused) → Checks old s before r after ↔ Checks new s before r after
-  pub tally : (r : Result Tallied Refused) → Tallies old s r ↔ Tallies new s r
+  pub tally : (r : Tallied) → Tallies old s r ↔ Tallies new s r
   pub write-script : (f : Form) (before after : List ℕ) (r : Result ℕ Refused) → Writes old f s before r after ↔ Writes new f s before r after
   pub print : (before after : List ℕ) (r : Result ℕ Refused) → Prints old s before r after ↔ Prints new s before r after
   pub reply : (reply : List ℕ) (r : Result Replied Refused) → Replies old s reply r ↔ Replies new s reply r

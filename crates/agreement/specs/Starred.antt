@@ -50,7 +50,7 @@ pub data Claim : Type 0 where
   reads : Result Unit Refused → Claim
   finds : ℕ → Range → Claim
   checks : List ℤ → Result Verdict Refused → List ℤ → Claim
-  tallies : Result Tallied Refused → Claim
+  tallies : Tallied → Claim
   writes : ℕ → Result ℕ Refused → List ℕ → Claim
 
 -- what `read` answers, a node's range, what `check` answers and leaves in its room, what `tally` answers, and what the writer answers and leaves in a room of
@@ -89,7 +89,7 @@ abbrev pub script_a : List ℕ
 script_a = ascii "(set-logic QF_UFBV)\n(declare-fun v0 () (_ BitVec 16))\n(declare-fun v1 () (_ BitVec 16))\n(assert (and (bvsle #x0000 v0) (bvsle v0 #x0001)))\n(assert (and (bvsle #x0000 v1) (bvsle v1 #x0001)))\n(assert (not (= v0 v1)))\n(check-sat)\n(exit)\n"
 
 abbrev pub counts : ℕ → ℕ → Claim
-counts h f = tallies (Ok (record { held = h; failed = f }))
+counts h f = tallies (record { reading = Ok tt; held = h; failed = f })
 
 abbrev pub refuses : Cause → ℕ → Claim
 refuses c p = reads (Err (record { cause = c; place = p }))

@@ -37,7 +37,7 @@ use Rattle.cases.specs.declared.Verdict.{Verdict}
 use Rattle.cases.specs.declared.Verdict.TheVariants.{Holds, Fails}
 use Rattle.cases.specs.declared.Tallied.{Tallied}
 use Rattle.cases.specs.Checks.{try_refusal, check_refusal, Checks}
-use Rattle.cases.specs.Tallies.{failed_said, Tallies}
+use Rattle.cases.specs.Tallies.{Tallies}
 use Rattle.cases.specs.Rows.{tally_rows, check_rows}
 use Rattle.smtlib.specs.Tokens.{digit_value}
 use Rattle.smtlib.specs.Values.{bit_vec}
@@ -190,8 +190,8 @@ pub record SettingsListed (text : List ℕ) (ts : List (List ℕ)) : Type 0 wher
 
 abbrev pub TallyAgrees : Type 0
 TallyAgrees =
-    (models : Bool) (s : List ℕ) → Sheet s → case_count (rule_in s) ≤ most_cases → (r : Result Tallied Refused) → Tallies most_nodes s r
-    → (ts : List (List ℕ)) × SettingsListed (script (sixteen models) (rule_in s)) ts × (failed_said r ≡ length ts)
+    (models : Bool) (s : List ℕ) → Sheet s → case_count (rule_in s) ≤ most_cases → (r : Tallied) → Tallies most_nodes s r
+    → (ts : List (List ℕ)) × SettingsListed (script (sixteen models) (rule_in s)) ts × (r.failed ≡ length ts)
 
 -- two accepted sheets with the same script, in one form, have one length, and differ in no byte but name lengths, names and block 0's check
 abbrev pub SameScript : Type 0
@@ -227,7 +227,7 @@ pub record OneAnswer : Type 0 where
   pub name : (sheet : Bor (List ℕ)) (variable : ℕ) (p q : Bor (List ℕ)) → NamePart most_nodes sheet variable p → NamePart most_nodes sheet variable q → SamePart p q
   pub block : (sheet : Bor (List ℕ)) (k : ℕ) (p q : Bor (List ℕ)) → BlockPart sheet k p → BlockPart sheet k q → SamePart p q
   pub check : (s : List ℕ) (before x y : List ℤ) (r t : Result Verdict Refused) → Checks most_nodes s before r x → Checks most_nodes s before t y → (r ≡ t) × (x ≡ y)
-  pub tally : (s : List ℕ) (r t : Result Tallied Refused) → Tallies most_nodes s r → Tallies most_nodes s t → r ≡ t
+  pub tally : (s : List ℕ) (r t : Tallied) → Tallies most_nodes s r → Tallies most_nodes s t → r ≡ t
   pub write-script : (f : Form) (s before x y : List ℕ) (r t : Result ℕ Refused) → Writes most_nodes f s before r x → Writes most_nodes f s before t y → (r ≡ t) × (x ≡ y)
   pub reply : (s reply : List ℕ) (r t : Result Replied Refused) → Replies most_nodes s reply r → Replies most_nodes s reply t → r ≡ t
   pub reply-into : (s reply : List ℕ) (before x y : List ℤ) (r t : Result Replied Refused) → RepliesInto most_nodes s reply before r x → RepliesInto most_nodes s reply before t y → (r ≡ t) × (x ≡ y)

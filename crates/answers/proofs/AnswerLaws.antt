@@ -30,7 +30,7 @@ use Rattle.reading.specs.Cascade.{refusal_of}
 use Rattle.odometer.proofs.Domains.{case-narrow}
 use Rattle.cases.specs.declared.Tallied.{Tallied}
 use Rattle.cases.specs.Checks.{try_refusal, check_refusal, checked_said, verdict, room_after, Checks}
-use Rattle.cases.specs.Tallies.{tallied_said, held_said, failed_said, Tallies}
+use Rattle.cases.specs.Tallies.{Tallies}
 use Rattle.cases.proofs.TryLaws.{accepted, tried-inside}
 use Rattle.wording.specs.Form.{sixteen}
 use Rattle.wording.specs.Script.{script}
@@ -208,15 +208,15 @@ module _ (s : List ℕ) where
           ap (λ (l : List ℕ). ascii "fails" ++ l ++ ascii "\n") (name_values-are s after case-is (case-length k.first)) ∙ ap (check_line (rule_in s)) (sym k.first) ∙ told k.tried
 
   -- ---- the tally
-  module _ {a : Result Tallied Refused} (w : Tallies most_nodes s a) where
-    pub tally-accepted : {t : Tallied} → a ≡ Ok t → numbers_line (ascii "held ") t.held (ascii " failed ") t.failed ≡ answer_text most_nodes Tally s
+  module _ {t : Tallied} (w : Tallies most_nodes s t) where
+    pub tally-accepted : t.reading ≡ Ok tt → numbers_line (ascii "held ") t.held (ascii " failed ") t.failed ≡ answer_text most_nodes Tally s
     unfolding answer_text
-    tally-accepted {t} d =
-        let e : try_refusal most_nodes s ≡ none = sym w.answer ∙ ap tallied_said d in
-        let h : t.held ≡ held (rule_in s) = sym (ap held_said d) ∙ w.held-count ∙ rw e in
-        let f : t.failed ≡ failed (rule_in s) = sym (ap failed_said d) ∙ w.failed-count ∙ rw e in
+    tally-accepted d =
+        let e : try_refusal most_nodes s ≡ none = sym w.answer ∙ ap said_of d in
+        let h : t.held ≡ held (rule_in s) = w.held-count ∙ rw e in
+        let f : t.failed ≡ failed (rule_in s) = w.failed-count ∙ rw e in
         rw (h, f) (told e)
 
-    pub tally-refused : {q : Refused} → a ≡ Err q → refusal_line (told_as q) ≡ answer_text most_nodes Tally s
+    pub tally-refused : {q : Refused} → t.reading ≡ Err q → refusal_line (told_as q) ≡ answer_text most_nodes Tally s
     unfolding answer_text
-    tally-refused d = refused _ (sym w.answer ∙ ap tallied_said d)
+    tally-refused d = refused _ (sym w.answer ∙ ap said_of d)

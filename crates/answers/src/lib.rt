@@ -67,8 +67,9 @@ fn tally_answer(sheet: &[u8], room: &mut [u8]) -> usize
     requires { enough_room ≤ length room.old }
     ensures { Wrote (answer_text most_nodes Tally sheet.now) room.old room.new 0 result }
 {
-    match cases::tally(sheet) {
-        Ok(tallied) => {
+    let tallied = cases::tally(sheet);
+    match tallied.reading {
+        Ok(()) => {
             phrases::numbers_line(
                 room,
                 b"held ",

@@ -10,6 +10,7 @@ use lib.ListN.{length}
 use Rattle.std.specs.Prelude.{Result, Ok, Err}
 use Rattle.refusals.specs.declared.Refused.{Refused}
 use Rattle.refusals.specs.Causes.{refusal_of as told_as}
+use Rattle.refusals.specs.Said.{said_of}
 use Rattle.refusals.specs.declared.Refusal.{Refusal}
 use Rattle.meaning.specs.Cases.{first_failure, held, failed}
 use Rattle.meaning.proofs.Counts.{case-count, held-failed}
@@ -18,7 +19,7 @@ use Rattle.layout.specs.Parts.{rule_in}
 use Rattle.cases.specs.declared.Verdict.{Verdict}
 use Rattle.cases.specs.declared.Tallied.{Tallied}
 use Rattle.cases.specs.Checks.{try_refusal, check_refusal, checked_said, is_some, verdict, Checks}
-use Rattle.cases.specs.Tallies.{unless_refused, tallied_said, held_said, failed_said, Tallies}
+use Rattle.cases.specs.Tallies.{unless_refused, Tallies}
 use Rattle.cases.proofs.Exact.{tally-small, check-small}
 use Rattle.cases.proofs.TryLaws.{few-cases}
 use Rattle.capi.specs.Codes.{refusal_code, code_of, code_said, fails_code, CheckCodes, counts_code, tally_code}
@@ -60,18 +61,18 @@ module _ (s : List ℕ) where
       small r e = let b = check-small s (length before) e in (b.some_number, omega (arith, b.low-place))
 
   -- ---- the tally
-  module _ {a : Result Tallied Refused} (c : Tallies most_nodes s a) where
-    pub tally-place : {q : Refused} → a ≡ Err q → q.place < most_nodes
-    tally-place d = (tally-small s (sym c.answer ∙ ap tallied_said d)).low-place
+  module _ {t : Tallied} (c : Tallies most_nodes s t) where
+    pub tally-place : {q : Refused} → t.reading ≡ Err q → q.place < most_nodes
+    tally-place d = (tally-small s (sym c.answer ∙ ap said_of d)).low-place
 
-    pub tally-refused : {q : Refused} → a ≡ Err q → refusal_code (told_as q) ≡ tally_code most_nodes s
-    tally-refused d = ap (λ (o : Option Refusal). code_of o (counts_code (held (rule_in s)) (failed (rule_in s)))) (sym (ap tallied_said d) ∙ c.answer)
+    pub tally-refused : {q : Refused} → t.reading ≡ Err q → refusal_code (told_as q) ≡ tally_code most_nodes s
+    tally-refused d = ap (λ (o : Option Refusal). code_of o (counts_code (held (rule_in s)) (failed (rule_in s)))) (sym (ap said_of d) ∙ c.answer)
 
-    pub tally-counted : {t : Tallied} → a ≡ Ok t → t.held * 2 ^ 24 + t.failed ≡ tally_code most_nodes s
-    tally-counted {t} d =
-        let e : try_refusal most_nodes s ≡ none = sym c.answer ∙ ap tallied_said d in
-        let h : t.held ≡ held (rule_in s) = sym (ap held_said d) ∙ c.held-count ∙ ap (λ (o : Option Refusal). unless_refused o (held (rule_in s))) e in
-        let f : t.failed ≡ failed (rule_in s) = sym (ap failed_said d) ∙ c.failed-count ∙ ap (λ (o : Option Refusal). unless_refused o (failed (rule_in s))) e in
+    pub tally-counted : t.reading ≡ Ok tt → t.held * 2 ^ 24 + t.failed ≡ tally_code most_nodes s
+    tally-counted d =
+        let e : try_refusal most_nodes s ≡ none = sym c.answer ∙ ap said_of d in
+        let h : t.held ≡ held (rule_in s) = c.held-count ∙ ap (λ (o : Option Refusal). unless_refused o (held (rule_in s))) e in
+        let f : t.failed ≡ failed (rule_in s) = c.failed-count ∙ ap (λ (o : Option Refusal). unless_refused o (failed (rule_in s))) e in
         ap₂ counts_code h f ∙ ap (λ (o : Option Refusal). code_of o (counts_code (held (rule_in s)) (failed (rule_in s)))) (sym e)
 
   -- both counts are told by quotient and rest, and are below 2^24

@@ -68,8 +68,9 @@ pub fn ragwashin_check(sheet: &[u8], room: &mut [i16]) -> u64
 pub fn ragwashin_tally(sheet: &[u8]) -> u64
     ensures { result ≡ tally_code most_nodes sheet.now }
 {
-    match cases::tally(sheet) {
-        Ok(tallied) => tallied.held as u64 * COUNT + tallied.failed as u64,
+    let tallied = cases::tally(sheet);
+    match tallied.reading {
+        Ok(()) => tallied.held as u64 * COUNT + tallied.failed as u64,
         Err(refused) => refusal_code(refused.into()),
     }
 }

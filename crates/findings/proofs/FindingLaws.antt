@@ -25,7 +25,6 @@ use Rattle.layout.specs.Starts.{shape_at, operands_of, sorts_of}
 use Rattle.layout.specs.Fold.{Found, found_by}
 use Rattle.findings.specs.declared.Finding.{Finding}
 use Rattle.findings.specs.declared.Finding.TheVariants.{Truth, Integer}
-use Rattle.findings.specs.declared.kept.Kept.{Kept}
 use Rattle.refusals.specs.declared.Cause.{Cause}
 use Rattle.std.proofs.Common.{Ok, Err}
 use Rattle.findings.specs.Findings.{sort_of, no_range, range_of, result_of, finding_from, finding_of, finding_fits, FindingFits}
@@ -64,10 +63,6 @@ pub fits-true : (f : Finding) → FindingFits f → finding_fits f ≡ true
 fits-true Truth h = refl
 fits-true (Integer r) h = narrow-true h
 
--- what is kept does
-pub kept_fits : (k : Kept) → FindingFits k.finding
-kept_fits k = fits-of k.finding k.fits
-
 pub decides-fits : (f : Finding) → Decides (finding_fits f) (FindingFits f)
 decides-fits f = (fits-of f, fits-true f)
 
@@ -82,14 +77,11 @@ domain-fits s b i e = rw e (record { low = i16-narrow s b (variable_place i); hi
 
 -- ---- operands of the right sorts
 -- the range of an operand that fits
-operand-fits : (f : Finding) (s : Sort) {p : Range} → Ok p ≡ operand_of f s → FindingFits f → NarrowEnds p
+pub operand-fits : (f : Finding) (s : Sort) {p : Range} → Ok p ≡ operand_of f s → FindingFits f → NarrowEnds p
 operand-fits Truth truth {p} e h = let d : p ≡ no_range = cc in rw d no-range-fits
 operand-fits Truth integer e h = cc
 operand-fits (Integer r) truth e h = cc
 operand-fits (Integer r) integer {p} e h = let d : p ≡ r = cc in rw d h
-
-pub kept_operand_fits : (k : Kept) (s : Sort) {p : Range} → Ok p ≡ operand_of k.finding s → NarrowEnds p
-kept_operand_fits k s e = operand-fits k.finding s e (kept_fits k)
 
 -- ---- the answer at a node
 pub fitted-good : (x : Finding) → finding_fits x ≡ true → fitted x ≡ Ok x

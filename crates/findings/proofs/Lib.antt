@@ -1,3 +1,3 @@
 pub mod FindingLaws
-pub mod KeptLaws
+pub mod PackedLaws
 pub mod SoundFindings

@@ -1,13 +1,9 @@
-// What is kept of a node that was read: a finding whose range, if it has one, has 16 bits at both ends.
+// What is kept of a node that was read: a truth value, or an integer in a range whose ends have 16 bits. Each value stands for a finding
+// that fits, so an array of them asks nothing of who lends it.
 #![tactic(auto)]
 
-ghost use Rattle.std.specs.Prelude.{◌≡◌, true};
-ghost use Rattle.findings.specs.Findings.{finding_fits};
-
-use crate::Finding;
-
-#[derive(Clone, Copy, Debug)]
-pub struct Kept {
-    pub finding: Finding,
-    pub ghost fits: { finding_fits finding ≡ true },
+#[derive(Clone, Copy, Debug, PartialEq, Eq)]
+pub enum Kept {
+    Truth,
+    Integer(i16, i16),
 }

@@ -9,7 +9,7 @@ ghost use Rattle.layout.specs.Starts.{shape_at};
 ghost use Rattle.layout.specs.Parts.{variable_count};
 ghost use Rattle.findings.specs.Findings.{no_range, result_of, domain_at, FindingFits};
 ghost use Rattle.findings.specs.Steps.{fitted, operand_of, one_step, two_step, three_step, step_of, Reaches};
-ghost use Rattle.findings.specs.Kept.{findings_in};
+ghost use Rattle.findings.specs.Kept.{packed_of, unpacked_of, findings_in};
 
 use kept::Kept;
 use kinds::{Kind, Record, Shape};
@@ -30,12 +30,24 @@ pub enum Finding {
 // The range that stands where there is none, since a kind's rule takes three ranges whatever it has (`Findings: no_range`).
 const NO_RANGE: Range = Range { low: 0, high: 0 };
 
-// What was kept of a node.
-fn kept_at(n: NodeNumber, findings: &[Kept; MOST_NODES]) -> Kept
-    requires { n.0 < most_nodes }
-    ensures { result.finding ≡ findings_in findings.now n.0 }
+// A finding as it is kept.
+pub fn packed(f: Finding) -> Kept
+    requires { FindingFits f }
+    ensures { result ≡ packed_of f }
 {
-    findings[n.0 as usize]
+    let Finding::Integer(r) = f else {
+        return Kept::Truth;
+    };
+    Kept::Integer(r.low as i16, r.high as i16)
+}
+
+fn unpacked(k: Kept) -> Finding
+    ensures { (result ≡ unpacked_of k) × FindingFits result }
+{
+    match k {
+        Kept::Truth => Finding::Truth,
+        Kept::Integer(low, high) => Finding::Integer(numbers::range_of(low, high)),
+    }
 }
 
 // What a node was found to be.
@@ -43,17 +55,26 @@ pub fn finding_at(n: NodeNumber, findings: &[Kept; MOST_NODES]) -> Finding
     requires { n.0 < most_nodes }
     ensures { (result ≡ findings_in findings.now n.0) × FindingFits result }
 {
-    kept_at(n, findings).finding
+    unpacked(findings[n.0 as usize])
 }
 
 // The range of an operand found to be f, where the sort s is asked for.
 fn of_sort(f: Finding, s: Sort) -> Result<Range, Cause>
     ensures { result ≡ operand_of f s }
 {
-    match (s, f) {
-        (Sort::Truth, Finding::Truth) => Ok(NO_RANGE),
-        (Sort::Integer, Finding::Integer(p)) => Ok(p),
-        _ => Err(Cause::Sort),
+    match s {
+        Sort::Truth => {
+            let Finding::Truth = f else {
+                return Err(Cause::Sort);
+            };
+            Ok(NO_RANGE)
+        }
+        Sort::Integer => {
+            let Finding::Integer(p) = f else {
+                return Err(Cause::Sort);
+            };
+            Ok(p)
+        }
     }
 }
 
@@ -103,19 +124,21 @@ fn from_one(kind: Kind, p: Range) -> Result<Finding, Cause>
 }
 
 #[tactic(auto, unfolding(crate::specs::Steps::one_step))]
-fn one_operand(kind: Kind, s: Sort, f: Kept) -> Result<Finding, Cause>
-    ensures { result ≡ one_step kind s f.finding }
+fn one_operand(kind: Kind, s: Sort, f: Finding) -> Result<Finding, Cause>
+    requires { FindingFits f }
+    ensures { result ≡ one_step kind s f }
 {
-    let p = of_sort(f.finding, s)?;
+    let p = of_sort(f, s)?;
     from_one(kind, p)
 }
 
 #[tactic(auto, unfolding(crate::specs::Steps::two_step))]
-fn two_operands(kind: Kind, s: Sort, t: Sort, f: Kept, g: Kept) -> Result<Finding, Cause>
-    ensures { result ≡ two_step kind s t f.finding g.finding }
+fn two_operands(kind: Kind, s: Sort, t: Sort, f: Finding, g: Finding) -> Result<Finding, Cause>
+    requires { FindingFits f × FindingFits g }
+    ensures { result ≡ two_step kind s t f g }
 {
-    let p = of_sort(f.finding, s)?;
-    let q = of_sort(g.finding, t)?;
+    let p = of_sort(f, s)?;
+    let q = of_sort(g, t)?;
     narrow_result(kind, p, q, NO_RANGE)
 }
 
@@ -125,15 +148,16 @@ fn three_operands(
     s: Sort,
     t: Sort,
     u: Sort,
-    f: Kept,
-    g: Kept,
-    h: Kept,
+    f: Finding,
+    g: Finding,
+    h: Finding,
 ) -> Result<Finding, Cause>
-    ensures { result ≡ three_step kind s t u f.finding g.finding h.finding }
+    requires { FindingFits f × FindingFits g }
+    ensures { result ≡ three_step kind s t u f g h }
 {
-    let p = of_sort(f.finding, s)?;
-    let q = of_sort(g.finding, t)?;
-    let o = of_sort(h.finding, u)?;
+    let p = of_sort(f, s)?;
+    let q = of_sort(g, t)?;
+    let o = of_sort(h, u)?;
     narrow_result(kind, p, q, o)
 }
 
@@ -155,18 +179,18 @@ pub fn node_step(sheet: &[u8], r: Record, findings: &[Kept; MOST_NODES]) -> Resu
         Shape::Valued => from_one(kind, constant(r.value)),
         Shape::Named => from_one(kind, records::domain(sheet, VariableNumber(r.a))),
         Shape::One(s) => {
-            let f = kept_at(NodeNumber(r.a), findings);
+            let f = finding_at(NodeNumber(r.a), findings);
             one_operand(kind, s, f)
         }
         Shape::Two(s, t) => {
-            let f = kept_at(NodeNumber(r.a), findings);
-            let g = kept_at(NodeNumber(r.b), findings);
+            let f = finding_at(NodeNumber(r.a), findings);
+            let g = finding_at(NodeNumber(r.b), findings);
             two_operands(kind, s, t, f, g)
         }
         Shape::Three(s, t, u) => {
-            let f = kept_at(NodeNumber(r.a), findings);
-            let g = kept_at(NodeNumber(r.b), findings);
-            let h = kept_at(NodeNumber(r.c), findings);
+            let f = finding_at(NodeNumber(r.a), findings);
+            let g = finding_at(NodeNumber(r.b), findings);
+            let h = finding_at(NodeNumber(r.c), findings);
             three_operands(kind, s, t, u, f, g, h)
         }
     }

@@ -35,10 +35,11 @@ use Rattle.findings.specs.declared.kept.Kept.{Kept}
 use Rattle.refusals.specs.declared.Cause.{Cause}
 use Rattle.refusals.specs.Causes.{refusal_of}
 use Rattle.std.proofs.Common.{Result, Ok, Err, MatchResult, is_ok, IsErrAnd}
-use Rattle.findings.specs.Findings.{sort_of, finding_of, domain_at, finding_at, finding_fits}
+use Rattle.findings.specs.Findings.{sort_of, finding_of, domain_at, finding_at, finding_fits, FindingFits}
 use Rattle.findings.specs.Steps.{Step, same_sort, are_sorted, step_of, Reaches}
-use Rattle.findings.specs.Kept.{truth_kept, findings_in}
-use Rattle.findings.proofs.FindingLaws.{found-sort, good-step, bad-step}
+use Rattle.findings.specs.Kept.{packed_of, unpacked_of, findings_in}
+use Rattle.findings.proofs.FindingLaws.{found-sort, fits-of, good-step, bad-step}
+use Rattle.findings.proofs.PackedLaws.{unpack-packed}
 use Rattle.nodes.specs.Nodes.{typed, node_refusal, goal_refusal, nodes}
 
 -- the sort of a node's finding is the sort that its kind gives
@@ -72,14 +73,14 @@ pub record Going (s : List ℕ) (n v : ℕ) (starts : List ℕ) (findings : List
   pub passed : (j : ℕ) → j < i → node_refusal s j ≡ none
 
 -- of an array that is full of a truth value
-full : (x : Kept) → x.finding ≡ Truth → (k j : ℕ) → findings_in (replicate k x) j ≡ Truth
-full x e zero j = refl
-full x e (suc k) zero = e
-full x e (suc k) (suc j) = full x e k j
+full : (k j : ℕ) → findings_in (replicate k Kept.Truth) j ≡ Truth
+full zero j = refl
+full (suc k) zero = refl
+full (suc k) (suc j) = full k j
 
-pub begin : {s : List ℕ} {n v : ℕ} (x : Kept) → Counted most_nodes s → n ≡ node_count s → v ≡ variable_count s → x.finding ≡ Truth → Going s n v (replicate most_nodes 0) (replicate most_nodes x) 0
+pub begin : {s : List ℕ} {n v : ℕ} → Counted most_nodes s → n ≡ node_count s → v ≡ variable_count s → Going s n v (replicate most_nodes 0) (replicate most_nodes Kept.Truth) 0
 unfolding below
-begin {s} x c en ev ex = record {
+begin {s} c en ev = record {
   counted = c;
   nodes-are = en;
   variables-are = ev;
@@ -87,20 +88,20 @@ begin {s} x c en ev ex = record {
   starts-size = refl;
   findings-size = refl;
   starts-are = filled_none 0 (start_step (table s)) most_nodes;
-  findings-are = fun_ext (full x ex most_nodes);
+  findings-are = fun_ext (full most_nodes);
   passed = λ j h. absurd (omega arith);
 }
 
 -- one more that is kept
-kept_more : (f : ℕ → (ℕ → Finding) → Finding) (l : List Kept) (n : ℕ) (x : Kept) → n < length l → findings_in l ≡ below Truth f n → x.finding ≡ f n (below Truth f n)
-    → findings_in (set l n x) ≡ below Truth f (suc n)
-kept_more f l n x h e ex = fun_ext (λ j. elim (ℕ_discrete j n) [ yes q ↦ here j q | no q ↦ there j q ])
+packed_more : (f : ℕ → (ℕ → Finding) → Finding) (l : List Kept) (n : ℕ) (x : Finding) → n < length l → FindingFits x → findings_in l ≡ below Truth f n → x ≡ f n (below Truth f n)
+    → findings_in (set l n (packed_of x)) ≡ below Truth f (suc n)
+packed_more f l n x h w e ex = fun_ext (λ j. elim (ℕ_discrete j n) [ yes q ↦ here j q | no q ↦ there j q ])
   where
-    here : (j : ℕ) → j ≡ n → findings_in (set l n x) j ≡ below Truth f (suc n) j
-    here j q = ap (λ (i : ℕ). (get_or (set l n x) i truth_kept).finding) q ∙ ap (λ (k : Kept). k.finding) (get_or-set_same l n x truth_kept h) ∙ ex ∙ sym (below_last Truth f n j q)
+    here : (j : ℕ) → j ≡ n → findings_in (set l n (packed_of x)) j ≡ below Truth f (suc n) j
+    here j q = ap (λ (i : ℕ). unpacked_of (get_or (set l n (packed_of x)) i Kept.Truth)) q ∙ ap unpacked_of (get_or-set_same l n (packed_of x) Kept.Truth h) ∙ unpack-packed x w ∙ ex ∙ sym (below_last Truth f n j q)
 
-    there : (j : ℕ) → (j ≡ n → ⊥) → findings_in (set l n x) j ≡ below Truth f (suc n) j
-    there j q = ap (λ (k : Kept). k.finding) (get_or-set_other l n j x truth_kept q) ∙ ap (λ (g : ℕ → Finding). g j) e ∙ sym (below_other Truth f n j q)
+    there : (j : ℕ) → (j ≡ n → ⊥) → findings_in (set l n (packed_of x)) j ≡ below Truth f (suc n) j
+    there j q = ap unpacked_of (get_or-set_other l n j (packed_of x) Kept.Truth q) ∙ ap (λ (g : ℕ → Finding). g j) e ∙ sym (below_other Truth f n j q)
 
 -- sorts that agree on the operands
 sorted-agree : {so so' : ℕ → Sort} {n : ℕ} (xs : List ℕ) (ss : List Sort) → Before n xs → ((j : ℕ) → j < n → so j ≡ so' j) → are_sorted so xs ss ≡ are_sorted so' xs ss
@@ -209,11 +210,11 @@ module _ {s : List ℕ} {n v : ℕ} {starts : List ℕ} {findings : List Kept} {
             (λ w. rw w.0 (refusal-8 s i placed-here (sym typed-is ∙ w.1) (sym (ap finding_fits whole_is) ∙ w.2)))
             (bad-step (domain_at s) (table s i) fi (sym step_is ∙ e)))
 
-        pub good-fits : {f : Finding} → x ≡ Ok f → finding_fits f ≡ true
-        good-fits {f} e = (good-step (domain_at s) (table s i) fi (sym step_is ∙ e)).fits
+        pub good-fits : {f : Finding} → x ≡ Ok f → FindingFits f
+        good-fits {f} e = fits-of f (good-step (domain_at s) (table s i) fi (sym step_is ∙ e)).fits
 
-        pub turn : {f : Finding} {t : ℕ} (m : Kept) → x ≡ Ok f → t ≡ start_by (shape_at r) r i (at 0 starts) → m.finding ≡ f → Going s n v (set starts i t) (set findings i m) (i + 1)
-        turn {f} {t} m e et em =
+        pub turn : {f : Finding} {t : ℕ} {m : Kept} → x ≡ Ok f → t ≡ start_by (shape_at r) r i (at 0 starts) → m ≡ packed_of f → Going s n v (set starts i t) (set findings i m) (i + 1)
+        turn {f} {t} {m} e et em =
             let w = good-step (domain_at s) (table s i) fi (sym step_is ∙ e) in
             let d : f ≡ finding_at s i = w.is ∙ whole_is in
             let most = g.counted.most in
@@ -226,7 +227,7 @@ module _ {s : List ℕ} {n v : ℕ} {starts : List ℕ} {findings : List Kept} {
               starts-size = length-set starts i t ∙ g.starts-size;
               findings-size = length-set findings i m ∙ g.findings-size;
               starts-are = rw (add-one i) (filled_more 0 (start_step (table s)) starts i t (omega (arith, g.starts-size)) g.starts-are (et ∙ ap₂ (λ (a : Record) (k : ℕ → ℕ). start_by (shape_at a) a i k) er g.starts-are));
-              findings-are = rw (add-one i) (kept_more (step s) findings i m (omega (arith, g.findings-size)) g.findings-are (em ∙ d ∙ unfold of_node course in refl));
+              findings-are = rw (add-one i, em) (packed_more (step s) findings i f (omega (arith, g.findings-size)) (good-fits e) g.findings-are (d ∙ unfold of_node course in refl));
               passed = λ j l. elim (dec_lt j i) [
                 | yes k ↦ g.passed j k
                 | no k ↦ let z : j ≡ i = omega arith in rw z (no-refusal s i placed-here (sym typed-is ∙ w.sorts) (sym (ap finding_fits d) ∙ w.fits))

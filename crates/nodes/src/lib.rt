@@ -43,9 +43,7 @@ pub fn read_nodes(sheet: &[u8]) -> Result<(), Refused>
     let v = header::variable_count(sheet);
     // Two arrays, since `order` is lent the one and `findings` the other.
     let mut starts = [0u16; MOST_NODES];
-    let mut findings = [Kept {
-        finding: Finding::Truth,
-    }; MOST_NODES];
+    let mut findings = [Kept::Truth; MOST_NODES];
     for i in 0..n {
         let node = NodeNumber(i as u16);
         let r = records::record_at(sheet, node);
@@ -60,7 +58,7 @@ pub fn read_nodes(sheet: &[u8]) -> Result<(), Refused>
             place: i,
         })?;
         starts[i] = order::start(r, node, &starts).0;
-        findings[i] = Kept { finding };
+        findings[i] = findings::packed(finding);
     }
     let goal = NodeNumber((n - 1) as u16);
     let start = order::start_of(goal, &starts);

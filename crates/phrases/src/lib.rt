@@ -90,7 +90,7 @@ fn put_name_values(
 }
 
 // The line of a check that fails with the row's values.
-// The sheet is bytes, which is all that a caller of this public function has: `reading::accepted::accept` would read it once more.
+// The sheet is bytes, and that they are accepted a clause: the callers have it so, and an `Accepted` would be made of just that.
 pub fn fails_line(sheet: &[u8], row: &[i16; MOST_VARIABLES], room: &mut [u8]) -> usize
     requires { Settled sheet.now row.now × (longest_fails ≤ length room.old) }
     ensures { Wrote (fails_line sheet.now row.now) room.old room.new 0 result }

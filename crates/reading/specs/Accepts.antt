@@ -9,7 +9,7 @@ use Rattle.reading.specs.Cascade.{refusal_of}
 
 -- of the model: an accepted sheet is its bytes
 abbrev pub Accepts : ℕ → List ℕ → Result (List ℕ) Refused → Type 0
-Accepts limit s (Ok t) = t ≡ s
+Accepts limit s (Ok t) = (t ≡ s) × (refusal_of limit s ≡ none)
 Accepts limit s (Err e) = refusal_of limit s ≡ some (told e)
 
 -- the sheet is accepted, and n is one of its nodes

@@ -32,7 +32,17 @@ pub fn accept(sheet: &[u8]) -> Result<Accepted<'_>, Refused>
     ensures { Accepts most_nodes sheet.now result }
 {
     crate::read(sheet)?;
-    Ok(Accepted { bytes: sheet })
+    Ok(Accepted::new(sheet))
+}
+
+impl<'a> Accepted<'a> {
+    // Bytes that are an accepted sheet, as one: no more is asked of who has them, and they are not read again.
+    pub fn new(sheet: &'a [u8]) -> Self
+        requires { refusal_of most_nodes sheet.now ≡ none }
+        ensures { result ≡ sheet.now }
+    {
+        Accepted { bytes: sheet }
+    }
 }
 
 impl Accepted<'_> {

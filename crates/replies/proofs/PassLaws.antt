@@ -1,7 +1,8 @@
 -- How the reader passes the parts of a pattern. Assumes nothing.
 use Prim.Native.Nat.{ℕ, zero, suc, ◌+◌, ◌-◌, ◌/◌, ◌%◌, ◌≤◌, ◌<◌}
-use mathlib.Core.Path.{◌≡◌, refl, sym, ap, ◌∙◌}
-use mathlib.Core.Bool.{Bool, true, false, cond, true≢false}
+use mathlib.Core.Path.{◌≡◌, refl, sym, ap, ap₂, ◌∙◌}
+use mathlib.Core.Logic.{◌⊎◌, inl, inr}
+use mathlib.Core.Bool.{Bool, true, false, cond, not, not-not, true≢false}
 use mathlib.Core.List.{List, [], ◌∷◌}
 use mathlib.Core.Option.{none, some}
 use native.Mathlib.Numerals.{add-one, one-add}
@@ -11,13 +12,14 @@ use native.Mathlib.Decide.{dec_lt}
 use lib.Dec.{eqb, ltb}
 use lib.ListN.{length, get_or, drop, replicate, drop_of_length-le, get_or-eq_default}
 use lib.Seq.{drop-cons}
-use Rattle.std.proofs.lemmas.List.{drop-drop, get_or_read}
+use Rattle.std.proofs.lemmas.List.{drop-drop, get_or_read, take_rest}
+use Rattle.std.proofs.lemmas.List.Sums.{prefix_len-le-length}
 use borrow.Author.Tests.{eq-eqb, ne_eqb, eqb-true, ltb-true, ltb-false}
 use Rattle.std.specs.Prelude.{Option, Some, None, Result, Ok, Err}
 use Rattle.std.specs.Borrow.{Bor}
-use Rattle.std.specs.List.{prefix_len}
-use Rattle.std.specs.Option.{option_eq}
-use Rattle.std.specs.Slice.{IsItemAt}
+use Rattle.std.specs.List.{prefix_len, position, position_or_len}
+use Rattle.std.specs.Option.{option_eq, unwrap_or}
+use Rattle.std.specs.Slice.{IsItemAt, IsGetRangeResult}
 use Rattle.lists.proofs.FirstLaws.{otherwise-none, otherwise-some}
 use Rattle.smtlib.specs.Characters.{white_space}
 use Rattle.wording.specs.Sixteen.{symbol_text}
@@ -102,6 +104,30 @@ pub blanks-pass : (s : List ℕ) (k n : ℕ) → n ≡ prefix_len white_space (d
 blanks-pass s k n e =
     let m = prefix_len white_space (drop k s) in
     record { same = λ p. blanks-from p k (drop k s) ∙ ap (λ (l : List ℕ). stops p (k + m) l) (drop-drop m k s) ∙ ap (λ (j : ℕ). stops p (k + j) (drop (k + j) s)) (sym e) }
+
+-- what is got from a place on, nothing where it lies behind the end
+pub rest-got : (s : List ℕ) (k : ℕ) (o : Option (Bor (List ℕ))) (d r : Bor (List ℕ)) → IsGetRangeResult s k (length s) o → d.now ≡ [] → r ≡ unwrap_or o d → r.now ≡ drop k s
+rest-got s k None d r g e f = ap (λ (b : Bor (List ℕ)). b.now) f ∙ e ∙ sym (drop_of_length-le s (behind g.0))
+  where
+    behind : (length s < k) ⊎ (length s < length s) → length s ≤ k
+    behind (inl l) = omega arith
+    behind (inr l) = omega arith
+rest-got s k (Some x) d r g e f = ap (λ (b : Bor (List ℕ)). b.now) f ∙ g.0.2 ∙ take_rest s k
+
+-- as many as stand before the first that is none
+before-other : (u : List ℕ) → position_or_len (λ c. not (white_space c)) u ≡ prefix_len white_space u
+before-other [] = refl
+before-other (c ∷ u) = ap₂ (λ (b : Bool) (n : ℕ). cond b (1 + n) 0) (not-not (white_space c)) (before-other u)
+
+pub before-first : (u : List ℕ) {o : Option ℕ} → o ≡ position (λ c. not (white_space c)) u → unwrap_or o (length u) ≡ prefix_len white_space u
+before-first u {o} e = rw e (rw (before-other u) (go (ltb (prefix_len white_space u) (length u)) refl))
+  where
+    go : (b : Bool) → ltb (prefix_len white_space u) (length u) ≡ b → unwrap_or (cond b (Some (prefix_len white_space u)) None) (length u) ≡ prefix_len white_space u
+    go true l = refl
+    go false l =
+        let m = ltb-false (prefix_len white_space u) (length u) l in
+        let n = prefix_len-le-length white_space u in
+        omega arith
 
 -- ---- in a loop: what is left of f is g
 

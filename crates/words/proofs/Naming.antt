@@ -1,30 +1,26 @@
--- Words and names looked up: among the kinds' words, and among the names of lines. Assumes nothing.
+-- Names looked up: no kind's word, and among the names of lines. Assumes nothing.
 use Prim.Native.Nat.{ℕ, suc, ◌+◌, ◌-◌, ◌<◌, ◌≤◌, min}
-use mathlib.Core.Path.{◌≡◌, refl, sym, ap, subst, ◌∙◌}
-use mathlib.Core.Bool.{Bool, true, false, not, cond, ◌&&◌}
+use mathlib.Core.Path.{◌≡◌, refl, sym, ap, ◌∙◌}
+use mathlib.Core.Bool.{Bool, true, false, not, ◌&&◌}
 use mathlib.Core.List.{List, [], ◌∷◌}
-use denote.Ref.{Bor}
 use native.Mathlib.Omega.{arith}
 use lib.ListN.{length, drop, take, length-drop, drop_of_length-le}
 use lib.Seq.{drop-drop}
 use lib.Dec.{eqb, leb}
 use borrow.Author.Tests.{leb-true}
 use Rattle.std.specs.Prelude.{Option, Some, None}
-use Rattle.std.specs.List.{find}
-use Rattle.std.specs.Option.{option_map, is_some}
+use Rattle.std.specs.Option.{is_some}
 use Rattle.std.specs.Str.{bytes_eq}
 use Rattle.std.proofs.lemmas.Bool.{leb-false}
 use Rattle.lists.specs.Names.{same_bytes}
-use Rattle.kinds.specs.declared.Kind.{Kind}
 use Rattle.kinds.specs.Kinds.{row}
 use Rattle.layout.specs.Limits.{most_name_bytes}
 use Rattle.records.specs.Variables.{name_right}
 use Rattle.grammar.specs.Words.{word_length}
 use Rattle.grammar.proofs.ScanLaws.{word-inside}
-use Rattle.texts.specs.Plain.{plain_of}
 use Rattle.texts.specs.Texts.{operands_behind}
 use Rattle.words.specs.Operands.{behind_said}
-use Rattle.texts.specs.WordKinds.{worded, kind_in, kind_named, is_none}
+use Rattle.texts.specs.WordKinds.{kind_named, is_none}
 use Rattle.texts.specs.Places.{separates, first_word, is_plain_name, index_in, behind_line, behind_var, names_in}
 
 -- ---- equal bytes, as the library tests them
@@ -35,32 +31,6 @@ equal-bytes [] [] = refl
 equal-bytes [] (c ∷ v) = refl
 equal-bytes (b ∷ u) [] = refl
 equal-bytes (b ∷ u) (c ∷ v) = ap (λ (t : Bool). eqb b c && t) (equal-bytes u v)
-
--- ---- kinds
-
-abbrev kind_at : Option Kind → Kind
-kind_at None = Kind.Unknown
-kind_at (Some k) = k
-
-one-at : (k : Kind) (o : Option Kind) (j : Kind) (x y : Bool) → y ≡ x → kind_at o ≡ j → kind_at (cond x (Some k) o) ≡ cond y k j
-one-at k o j true y e f = rw e
-one-at k o j false y e f = rw e f
-
-in-kinds : (ks : List Kind) (w : List ℕ) → kind_at (find (λ k. bytes_eq (plain_of k) w) ks) ≡ kind_in ks w
-unfolding kind_in
-in-kinds [] w = refl
-in-kinds (k ∷ ks) w =
-    one-at k (find (λ k. bytes_eq (plain_of k) w) ks) (kind_in ks w) (bytes_eq (plain_of k) w) (same_bytes (plain_of k) w) (equal-bytes (plain_of k) w) (in-kinds ks w)
-
--- what the search finds among the kinds that have a word
-module _ (w : List ℕ) (ks : List Kind) (t : ks ≡ worded) {o : Option (Bor Kind)} (e : option_map (λ b. b.now) o ≡ find (λ k. bytes_eq (plain_of k) w) ks) where
-  pub kind-found : {b : Bor Kind} → o ≡ Some b → b.now ≡ kind_named w
-  unfolding kind_named
-  kind-found f = sym (ap (λ (p : Option (Bor Kind)). kind_at (option_map (λ b. b.now) p)) f) ∙ ap kind_at e ∙ in-kinds ks w ∙ ap (λ (l : List Kind). kind_in l w) t
-
-  pub kind-none : o ≡ None → Kind.Unknown ≡ kind_named w
-  unfolding kind_named
-  kind-none f = sym (ap (λ (p : Option (Bor Kind)). kind_at (option_map (λ b. b.now) p)) f) ∙ ap kind_at e ∙ in-kinds ks w ∙ ap (λ (l : List Kind). kind_in l w) t
 
 -- ---- plain names
 

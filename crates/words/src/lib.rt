@@ -2,6 +2,7 @@
 #![tactic(auto)]
 
 ghost use Rattle.std.specs.Prelude.{◌≡◌, true, not, ◌&&◌, ◌+◌, ◌-◌, ◌*◌, ◌≤◌, leb, pos, neg_ℤ, length, drop};
+ghost use Rattle.lists.specs.Names.{same_bytes};
 ghost use Rattle.kinds.specs.Kinds.{row};
 ghost use Rattle.texts.specs.Texts.{operands_behind};
 ghost use Rattle.grammar.specs.Words.{word_length};
@@ -82,13 +83,50 @@ pub fn word_of(kind: Kind) -> &'static [u8]
     }
 }
 
+// Whether this is a kind's plain word.
+fn is_word(word: &[u8], kind: Kind) -> bool
+    ensures { result ≡ same_bytes (row kind).plain word.now }
+{
+    records::same_bytes(word_of(kind), word)
+}
+
 // The kind whose plain word this is; Unknown where it is none's.
+#[tactic(auto, unfolding(texts::specs::WordKinds::kind_named, texts::specs::WordKinds::kind_in))]
 pub fn kind_named(word: &[u8]) -> Kind
     ensures { result ≡ kind_named word.now }
 {
-    match WORDED.iter().find(|kind| word_of(**kind) == word) {
-        Some(kind) => *kind,
-        None => Kind::Unknown,
+    if is_word(word, Kind::True) {
+        Kind::True
+    } else if is_word(word, Kind::False) {
+        Kind::False
+    } else if is_word(word, Kind::Not) {
+        Kind::Not
+    } else if is_word(word, Kind::And) {
+        Kind::And
+    } else if is_word(word, Kind::Or) {
+        Kind::Or
+    } else if is_word(word, Kind::Implies) {
+        Kind::Implies
+    } else if is_word(word, Kind::Iff) {
+        Kind::Iff
+    } else if is_word(word, Kind::Equal) {
+        Kind::Equal
+    } else if is_word(word, Kind::Less) {
+        Kind::Less
+    } else if is_word(word, Kind::AtMost) {
+        Kind::AtMost
+    } else if is_word(word, Kind::Minus) {
+        Kind::Minus
+    } else if is_word(word, Kind::Sum) {
+        Kind::Sum
+    } else if is_word(word, Kind::Difference) {
+        Kind::Difference
+    } else if is_word(word, Kind::Product) {
+        Kind::Product
+    } else if is_word(word, Kind::If) {
+        Kind::If
+    } else {
+        Kind::Unknown
     }
 }
 

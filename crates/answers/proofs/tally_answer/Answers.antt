@@ -5,8 +5,8 @@ use Rattle.answers.proofs.tally_answer.Goals as goal
 
 pub returns-in-Ok : goal.returns-in-Ok
 returns-in-Ok c =
-    wrote_as c.numbers_line.ensures (tally-accepted _ c.tally.ensures c.in-Ok.is)
+    wrote_as c.numbers_line.ensures (tally-accepted _ c.tally-tallied.ensures c.in-Ok.is)
 
 pub returns-in-Err : goal.returns-in-Err
 returns-in-Err c =
-    wrote_as (rw c.into.ensures at c.refused_line.ensures) (tally-refused _ c.tally.ensures c.in-Err.is)
+    wrote_as (rw c.into.ensures at c.refused_line.ensures) (tally-refused _ c.tally-tallied.ensures c.in-Err.is)

@@ -39,14 +39,14 @@ returns-in-Named c =
 pub returns-in-One : goal.returns-in-One
 returns-in-One c =
     let s = c.args in
-    step-one (domain_at s.sheet.now) s.r (findings_in s.findings.now) c.shape_of.ensures c.in-One.is (c.one_operand.ensures ∙ ap (one_step s.r.kind _) c.kept_at-f.ensures)
+    step-one (domain_at s.sheet.now) s.r (findings_in s.findings.now) c.shape_of.ensures c.in-One.is (c.one_operand.ensures ∙ ap (one_step s.r.kind _) c.finding_at-f.ensures.0)
 
 pub returns-in-Two : goal.returns-in-Two
 returns-in-Two c =
     let s = c.args in
-    step-two (domain_at s.sheet.now) s.r (findings_in s.findings.now) c.shape_of.ensures c.in-Two.is (c.two_operands.ensures ∙ ap₂ (two_step s.r.kind _ _) c.kept_at-f-in-Two.ensures c.kept_at-g.ensures)
+    step-two (domain_at s.sheet.now) s.r (findings_in s.findings.now) c.shape_of.ensures c.in-Two.is (c.two_operands.ensures ∙ ap₂ (two_step s.r.kind _ _) c.finding_at-f-in-Two.ensures.0 c.finding_at-g.ensures.0)
 
 pub returns-in-Three : goal.returns-in-Three
 returns-in-Three c =
     let s = c.args in
-    step-three (domain_at s.sheet.now) s.r (findings_in s.findings.now) c.shape_of.ensures c.in-Three.is (c.three_operands.ensures ∙ rw (c.kept_at-f-in-Three.ensures, c.kept_at-g-in-Three.ensures, c.kept_at-h.ensures))
+    step-three (domain_at s.sheet.now) s.r (findings_in s.findings.now) c.shape_of.ensures c.in-Three.is (c.three_operands.ensures ∙ rw (c.finding_at-f-in-Three.ensures.0, c.finding_at-g-in-Three.ensures.0, c.finding_at-h.ensures.0))

@@ -1,14 +1,14 @@
 -- `nodes::read_nodes` meets its contract: the loop's invariant is `Going`. Assumes nothing.
 use borrow.Author.Rules.{rules}
 use Rattle.std.proofs.iter.Serving.{serving}
-use mathlib.Core.Path.{◌≡◌, refl, ◌∙◌}
+use mathlib.Core.Path.{◌≡◌, ◌∙◌}
 use native.Mathlib.Omega.{arith}
 use Rattle.nodes.proofs.LoopLaws.{begin, falling, misplaced, start-ready, step-ready, good-fits, refused, turn, finish, was_ok, was_err}
 use Rattle.std.proofs.lemmas.Result.{err_from_is_err_and}
 use Rattle.nodes.proofs.read_nodes.Goals as goal
 
 pub loop-i-init : goal.loop-i-init
-loop-i-init c = begin _ c.requires c.node_count-n.ensures c.variable_count-v.ensures refl
+loop-i-init c = begin c.requires c.node_count-n.ensures c.variable_count-v.ensures
 
 pub right_place-requires : goal.right_place-requires
 right_place-requires c =
@@ -33,14 +33,13 @@ pub start-requires : goal.start-requires
 start-requires c =
     start-ready c.loop-i.invariant c.loop-i-test.true c.record_at-r.ensures c.right_place.ensures c.if-not-right_place.false
 
-pub invariant_of-findings-in-loop-i : goal.invariant_of-findings-in-loop-i
-invariant_of-findings-in-loop-i c = record {
-  fits = good-fits c.loop-i.invariant c.loop-i-test.true c.record_at-r.ensures c.right_place.ensures c.if-not-right_place.false c.node_step.ensures (was_ok c.node_step.result _ c.map_err.ensures.cases c.map_err.ensures.variant c.in_ok-finding.was);
-}
+pub packed-requires : goal.packed-requires
+packed-requires c =
+    good-fits c.loop-i.invariant c.loop-i-test.true c.record_at-r.ensures c.right_place.ensures c.if-not-right_place.false c.node_step.ensures (was_ok c.node_step.result _ c.map_err.ensures.cases c.map_err.ensures.variant c.in_ok-finding.was)
 
 pub loop-i-preserved : goal.loop-i-preserved
 loop-i-preserved c =
-    turn c.loop-i.invariant c.loop-i-test.true c.record_at-r.ensures c.right_place.ensures c.if-not-right_place.false c.node_step.ensures _ (was_ok c.node_step.result _ c.map_err.ensures.cases c.map_err.ensures.variant c.in_ok-finding.was) c.start.ensures refl
+    turn c.loop-i.invariant c.loop-i-test.true c.record_at-r.ensures c.right_place.ensures c.if-not-right_place.false c.node_step.ensures (was_ok c.node_step.result _ c.map_err.ensures.cases c.map_err.ensures.variant c.in_ok-finding.was) c.start.ensures c.packed.ensures
 
 pub returns : goal.returns
 returns c = c.read_goal.ensures ∙ finish c.loop-i.invariant c.loop-i-test.false c.start_of-start.ensures c.finding_at.ensures.0

@@ -3,8 +3,5 @@ use native.Mathlib.Omega.{arith}
 use Rattle.texts.proofs.CountLaws.{line-feeds}
 use Rattle.words.proofs.whole.Whole.variable_count.Goals as goal
 
-pub overflow_sub-result : goal.overflow_sub-result
-overflow_sub-result c = omega (arith, c.occurrences.ensures, line-feeds c.self.invariant.says)
-
 pub returns-clause-count : goal.returns-clause-count
-returns-clause-count c = λ d h. omega (arith, c.occurrences.ensures, line-feeds (rw (← c.self.view_is) at h))
+returns-clause-count c = λ d h. omega (arith, c.self.invariant.1, line-feeds (rw (← c.self.view_is) at h))
